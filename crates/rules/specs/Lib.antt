@@ -1,0 +1,12 @@
+pub mod Kinds
+pub mod Answer
+pub mod Word
+pub mod Book
+pub mod Script
+pub mod Expression
+pub mod Check
+pub mod Allowed
+pub mod Step
+pub mod Run
+pub mod Ledger
+pub mod Figures
