@@ -13,9 +13,10 @@ use Rattle.std.specs.declared.result.Result.{Result}
 use Rattle.std.specs.declared.result.Result.the-variants.{Ok, Err}
 use Rattle.std.proofs.shelf.Lists.{getD-past}
 use Rattle.std.proofs.shelf.Tests.{ltb-true, lt-ltb, cases-lt, cases-bool}
-use Rattle.reversible.specs.Machine.{Machine, Maps, Dir, fwd, bwd, other, Next, finish, go, stop, mapNext}
-use Rattle.reversible.specs.Laws.{Turns}
-use Rattle.reversible.proofs.Mapped.{every, turns-round}
+use Rattle.reversible.specs.Machine.{Machine, Maps, Any, Dir, fwd, bwd, other, Next, finish, go, stop, mapNext}
+use Rattle.reversible.specs.Laws.{Turns, Carries}
+use Rattle.reversible.proofs.Runs.{restores}
+use Rattle.reversible.proofs.Mapped.{carries, turns-round}
 use Rattle.rules.specs.Answer.{_>>=_, need, either}
 use Rattle.rules.specs.Word.{eqZ, word, holds, onBits}
 use Rattle.rules.specs.Book.{recordAt, named, clear, records, isBook}
@@ -378,7 +379,7 @@ module _ (sc : Script) (ok : checked sc ≡ accepted) where
   abbrev from-end : ℕ → ℕ
   from-end l = length (sc .lines) - 1 - l
 
-  pub maps : Maps (machine sc) (machine (turnedScript sc)) every (Inv sc ok) other from-end (mirrored (length (sc .lines))) (λ b. b)
+  pub maps : Maps (machine sc) (machine (turnedScript sc)) Any (Inv sc ok) other from-end (mirrored (length (sc .lines))) (λ b. b)
   maps = record {
       has = has-mirrored sc ok;
       isBook = λ a o. refl;
@@ -393,3 +394,9 @@ module _ (sc : Script) (ok : checked sc ≡ accepted) where
 
   pub turns : Turns (machine sc) (machine (turnedScript sc))
   turns = turns-round (machine sc) (machine (turnedScript sc)) (Inv sc ok) (lawful sc ok) from-end (mirrored (length (sc .lines))) maps
+
+  -- the turned script's run is the run in the other direction, refusals, lines and steps included
+  pub mirrors : checked (turnedScript sc) ≡ accepted → Carries (machine sc) (machine (turnedScript sc)) Any other from-end (λ b. b)
+  mirrors ok′ =
+    carries (machine sc) (machine (turnedScript sc)) Any (Inv sc ok) other from-end (mirrored (length (sc .lines))) (λ b. b) maps
+      (restores (machine sc) (Inv sc ok) (lawful sc ok)) (restores (machine (turnedScript sc)) (Inv (turnedScript sc) ok′) (lawful (turnedScript sc) ok′))

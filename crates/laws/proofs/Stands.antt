@@ -13,8 +13,9 @@ use Rattle.rules.specs.Ledger.{screenRules}
 use Rattle.laws.specs.Whole.{Whole}
 use Rattle.laws.proofs.Fit.{Fit}
 use Rattle.laws.proofs.Lawful.{lawful}
+use Rattle.laws.proofs.Grammar.{allowed-from, accepted-from}
 use Rattle.laws.proofs.Turnable.{turned-accepted}
-use Rattle.laws.proofs.Mirrored.{turned-again, turns}
+use Rattle.laws.proofs.Mirrored.{turned-again, turns, mirrors}
 
 
 abbrev Good : Script → Type 0
@@ -28,10 +29,12 @@ screen-lawful = record { good-empty = refl; good-script = λ sc e. e; lawful = �
 
 pub whole : Whole
 whole = record {
+    grammar = λ sc. (allowed-from sc, accepted-from sc);
     scripts = λ sc ok. record {
         runs = run-laws (machine sc) (Inv sc) (lawful sc ok);
         turns = turns sc ok;
-        allowed = turned-accepted sc ok;
+        mirrors = mirrors sc ok (turned-accepted sc ok);
+        again = turned-accepted sc ok;
         twice = ap (λ ls. record { lines = ls; terms = sc .terms }) (turned-again (sc .lines))
       };
     keeps = keeps screenRules Good Inv screen-lawful;

@@ -4,7 +4,7 @@ use mathlib.Core.Logic.{_↔_}
 use mathlib.Core.Bool.{Bool, true, false}
 use Prim.Native.Nat.{ℕ, zero, suc, _≤_}
 use lib.Dec.{T}
-use Rattle.reversible.specs.Machine.{Machine, Lawful, Maps, Dir, fwd, bwd, other, Next, finish, go, stop, How, ended, spent, bad, Walk, rest, bump, at-rest, onward, Outcome, done, refused, pick, walk, undo, outcome, conclude, run-from, run, mapNext, mapOutcome}
+use Rattle.reversible.specs.Machine.{Machine, Lawful, Maps, Dir, fwd, bwd, other, Next, finish, go, stop, How, ended, spent, bad, Walk, rest, bump, at-rest, onward, Outcome, done, refused, pick, walk, undo, outcome, conclude, run-from, run, mapNext, mapOutcome, Any}
 use Rattle.reversible.specs.Laws.{Restores, Turns, Carries}
 use Rattle.reversible.proofs.Runs.{Finished, finished, never, undone, walk-rests, run-from-enter, Rests, Steps}
 
@@ -109,18 +109,14 @@ module _ {S B S′ B′ R : Type 0} (m : Machine S B R) (m′ : Machine S′ B�
         let e₀ = run-from-enter m q d a b t h in
         e ∙ alike q d a b (w .how) (w .steps) (w .state) (walk-kept q d b s (M .inv-enter q d a o t h)) e₀ e ∙ ap (mapOutcome ln g) (sym e₀)
 
--- every book
-abbrev pub every : {B : Type 0} → B → Type 0
-every b = Unit {0}
-
 -- the turned machine: its states are those of the first, seen from the other end
-pub turns-round : {S B S′ R : Type 0} (m : Machine S B R) (m′ : Machine S′ B R) (Inv : ℕ → Dir → S → Type 0) (L : Lawful m Inv) (ln : ℕ → ℕ) (f : S → S′) → Maps m m′ every Inv other ln f (λ b. b) → Turns m m′
+pub turns-round : {S B S′ R : Type 0} (m : Machine S B R) (m′ : Machine S′ B R) (Inv : ℕ → Dir → S → Type 0) (L : Lawful m Inv) (ln : ℕ → ℕ) (f : S → S′) → Maps m m′ Any Inv other ln f (λ b. b) → Turns m m′
 turns-round {S} {B} m m′ Inv L ln f M q a b n = (there, back)
   where
     there : run m q fwd a n ≡ done n b → run m′ q fwd b n ≡ done n a
-    there e = run-to m m′ every Inv other ln f (λ b. b) M q bwd b a n n tt (undone m Inv L q fwd a b n e)
+    there e = run-to m m′ Any Inv other ln f (λ b. b) M q bwd b a n n tt (undone m Inv L q fwd a b n e)
 
     back : run m′ q fwd b n ≡ done n a → run m q fwd a n ≡ done n b
     back e =
-        let o = run-of m m′ every Inv other ln f (λ b. b) M q bwd b a n n tt e in
+        let o = run-of m m′ Any Inv other ln f (λ b. b) M q bwd b a n n tt e in
         undone m Inv L q bwd b a n (subst (λ (x : B). run m q bwd b n ≡ done n x) (o .2) (o .1))

@@ -131,6 +131,10 @@ abbrev pub mapOutcome : {B B′ R : Type 0} → (ℕ → ℕ) → (B → B′) �
 mapOutcome ln g (done n b) = done n (g b)
 mapOutcome ln g (refused r l n b) = refused r (ln l) n (g b)
 
+-- no condition on a book
+abbrev pub Any : {B : Type 0} → B → Type 0
+Any b = Unit {0}
+
 -- A map f of one machine's states to another's that keeps steps, with a map g of books, one of directions and one of lines.
 -- From says of which books this is claimed, and J is what their runs keep.
 pub record Maps {S B S′ B′ R : Type 0} (m : Machine S B R) (m′ : Machine S′ B′ R) (From : B → Type 0) (J : ℕ → Dir → S → Type 0) (turns : Dir → Dir) (ln : ℕ → ℕ) (f : S → S′) (g : B → B′) : Type 0 where
