@@ -62,13 +62,16 @@ pub branched-back : {X : Type 0} (sc : Script) (l : ℕ) (s t : State) → At l 
 branched-back sc l s t here twice e one other =
     passed _ _ e λ v found rest.
     chose (holds v) _ _ rest
-      (λ y last. one (rw (sym (ok-same last)) (refl, refl, asserted-at sc l (flipped (goTo (past (s .forward) l) s)) v found y ∙ returns l (past (s .forward) l) s here)))
-      (λ n more.
-        passed _ _ more λ w mates rest.
-        held _ _ _ rest λ m last.
-        other (rw (sym (ok-same last))
-          (refl, refl, branched-past sc (partner (sc .lines) l) (flipped (goTo (past (s .forward) (partner (sc .lines) l)) s)) w mates v (not-true _ m) (rw twice found) n
-            ∙ rw twice (returns l (past (s .forward) (partner (sc .lines) l)) s here))))
+    (λ y last. one (rw (sym (ok-same last)) (refl, refl, asserted-at sc l (flipped (goTo (past (s .forward) l) s)) v found y ∙ returns l (past (s .forward) l) s here)))
+    (λ n more.
+    passed _ _ more λ w mates rest.
+    held _ _ _ rest λ m last.
+    other (rw (sym (ok-same last)) (
+      refl,
+      refl,
+      branched-past sc (partner (sc .lines) l) (flipped (goTo (past (s .forward) (partner (sc .lines) l)) s)) w mates v (not-true _ m) (rw twice found) n
+          ∙ rw twice (returns l (past (s .forward) (partner (sc .lines) l)) s here),
+    )))
 
 -- add, subtract, xor
 module _ (sc : Script) (l : ℕ) (f g : ℤ → ℤ → ℤ) where
@@ -84,22 +87,25 @@ module _ (sc : Script) (l : ℕ) (f g : ℤ → ℤ → ℤ) (s t : State) (d : 
   ts = termsOf (sc .terms) (lineAt (sc .lines) l)
 
   value-kept : (u : Spot) (w : ℤ) → known x ≡ true → All (Sound d) ts → names x ts ≡ false → find s x ≡ Ok u
-    → value sc (write u w s) l ≡ value sc s l
+      → value sc (write u w s) l ≡ value sc s l
   value-kept u w k h n e = worked-same (see (write u w s)) (see s) ts [] (unnamed s x u w d ts k e h n)
 
   written-back : (u : Spot) (v : ℤ) → g (f (read s u) v) v ≡ read s u
-    → (let t = goTo (past (s .forward) l) (write u (f (read s u) v) s) in go l (write u (g (read (flipped t) u) v) (flipped t)) ≡ Ok (flipped s))
+      → (let t = goTo (past (s .forward) l) (write u (f (read s u) v) s) in go l (write u (g (read (flipped t) u) v) (flipped t)) ≡ Ok (flipped s))
   written-back (InBook i) v undo =
-    ap₂ {C = Result State Refusal} (λ p b. Ok (goTo p (withBook b (flipped s)))) (sym here) (put-back (s .book) i (λ a. g a v) (f (read s (InBook i)) v) undo)
+      ap₂ {C = Result State Refusal} (λ p b. Ok (goTo p (withBook b (flipped s)))) (sym here) (put-back (s .book) i (λ a. g a v) (f (read s (InBook i)) v) undo)
   written-back (InLocals i) v undo =
-    ap₂ {C = Result State Refusal} (λ p b. Ok (goTo p (withLocals b (flipped s)))) (sym here) (put-back (s .locals) i (λ a. g a v) (f (read s (InLocals i)) v) undo)
+      ap₂ {C = Result State Refusal} (λ p b. Ok (goTo p (withLocals b (flipped s)))) (sym here) (put-back (s .locals) i (λ a. g a v) (f (read s (InLocals i)) v) undo)
 
   pub changed-back : known x ≡ true → All (Sound d) ts → names x ts ≡ false
-    → ((v : ℤ) (u : Spot) → find s x ≡ Ok u → g (f (read s u) v) v ≡ read s u)
-    → changed sc l s f ≡ Ok t → Undone (λ c. changed sc l c g) l s t
+      → ((v : ℤ) (u : Spot) → find s x ≡ Ok u → g (f (read s u) v) v ≡ read s u)
+      → changed sc l s f ≡ Ok t → Undone (λ c. changed sc l c g) l s t
   changed-back k h n undo e =
-    passed _ _ e λ v val rest.
-    passed _ _ rest λ u spot last.
-    rw (sym (ok-same last))
-      (refl, refl, changed-at sc l g f (flipped (goTo (past (s .forward) l) (write u (f (read s u) v) s))) v u (value-kept u (f (read s u) v) k h n spot ∙ val) spot
-        ∙ written-back u v (undo v u spot))
+      passed _ _ e λ v val rest.
+      passed _ _ rest λ u spot last.
+      rw (sym (ok-same last)) (
+        refl,
+        refl,
+        changed-at sc l g f (flipped (goTo (past (s .forward) l) (write u (f (read s u) v) s))) v u (value-kept u (f (read s u) v) k h n spot ∙ val) spot
+            ∙ written-back u v (undo v u spot),
+      )

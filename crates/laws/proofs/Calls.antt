@@ -41,17 +41,17 @@ module _ (s : State) (y : Place) (k : ℕ) where
 
   holding-from : callee s y ≡ Ok k → holding s y k ≡ Ok tt
   holding-from e = chose (isNone y) _ _ e
-    (λ none _. holding-none none)
-    (λ some more.
+      (λ none _. holding-none none)
+      (λ some more.
       passed _ _ more λ u at rest.
       held _ _ _ rest λ names same.
       holding-at u some at (named-is (s .book) (read s u) (ltb-true 0 _ names) .0 ∙ ap pos (ok-same same)))
 
   callee-from : {v : Unit {0}} → (isNone y ≡ true → k ≡ s .present) → (isNone y ≡ false → (0 < k) × (named (s .book) (pos k) ≡ k))
-    → holding s y k ≡ Ok v → callee s y ≡ Ok k
+      → holding s y k ≡ Ok v → callee s y ≡ Ok k
   callee-from mine other e = chose (isNone y) _ _ e
-    (λ none _. callee-none none ∙ ap {B = Result ℕ Refusal} Ok (sym (mine none)))
-    (λ some more.
+      (λ none _. callee-none none ∙ ap {B = Result ℕ Refusal} Ok (sym (mine none)))
+      (λ some more.
       passed _ _ more λ u at test.
       let (least, real) = other some in
       callee-at u some at (eqZ-true (read s u) (pos k) (needed _ _ test)) least real)
@@ -78,35 +78,35 @@ module _ (sc : Script) (l : ℕ) (s : State) where
   frame = record { line = l; former = s .present; count = length (s .locals) }
 
   entered-at : (fw : Bool) (k : ℕ) → length (s .frames) < 64 → callee s (c .y) ≡ Ok k
-    → entered sc l s fw ≡ Ok (record { position = entry sc fw (c .q); forward = fw; present = k; locals = s .locals; frames = frame ∷ s .frames; book = s .book })
+      → entered sc l s fw ≡ Ok (record { position = entry sc fw (c .q); forward = fw; present = k; locals = s .locals; frames = frame ∷ s .frames; book = s .book })
   unfolding _>>=_ need
   entered-at fw k few is = rw (lt-ltb _ 64 few, is)
 
   -- a call, and the return from it at line m
   pub entered-back : (m : ℕ) (t : State) → At l s → entered sc l s (across (c .kind) (s .forward)) ≡ Ok t → returned sc m (flipped t) (t .frames) ≡ Ok (flipped s)
   entered-back m t here e =
-    held _ _ _ e λ few rest.
-    passed _ _ rest λ k is last.
-    let t′ = flipped (record { position = entry sc (across (c .kind) (s .forward)) (c .q); forward = across (c .kind) (s .forward); present = k; locals = s .locals; frames = frame ∷ s .frames; book = s .book }) in
-    rw (sym (ok-same last))
+      held _ _ _ e λ few rest.
+      passed _ _ rest λ k is last.
+      let t′ = flipped (record { position = entry sc (across (c .kind) (s .forward)) (c .q); forward = across (c .kind) (s .forward); present = k; locals = s .locals; frames = frame ∷ s .frames; book = s .book }) in
+      rw (sym (ok-same last))
       (left-at sc m t′ frame (s .frames) (holding-from s (c .y) k is)
-        ∙ ap {B = Result State Refusal} (λ fw. Ok (record { position = past fw l; forward = fw; present = s .present; locals = s .locals; frames = s .frames; book = s .book })) (across-twice (c .kind) (s .forward))
-        ∙ ap {B = Result State Refusal} (λ p. Ok (goTo p (flipped s))) (sym here))
+      ∙ ap {B = Result State Refusal} (λ fw. Ok (record { position = past fw l; forward = fw; present = s .present; locals = s .locals; frames = s .frames; book = s .book })) (across-twice (c .kind) (s .forward))
+      ∙ ap {B = Result State Refusal} (λ p. Ok (goTo p (flipped s))) (sym here))
 
 module _ (sc : Script) (l : ℕ) (s : State) where
   -- a return at line l, and the call that it came from
   pub left-back : (t : State) (f : Frame) (fs : List Frame) → s .frames ≡ f ∷ fs → f .count ≡ length (s .locals) → length fs < 64
-    → (let y = lineAt (sc .lines) (f .line) .y in (isNone y ≡ true → s .present ≡ f .former) × (isNone y ≡ false → (0 < s .present) × (named (s .book) (pos (s .present)) ≡ s .present)))
-    → entry sc (not (s .forward)) (lineAt (sc .lines) (f .line) .q) ≡ s .position
-    → left sc l s f fs ≡ Ok t
-    → entered sc (f .line) (flipped t) (across (lineAt (sc .lines) (f .line) .kind) (not (t .forward))) ≡ Ok (flipped s)
+      → (let y = lineAt (sc .lines) (f .line) .y in (isNone y ≡ true → s .present ≡ f .former) × (isNone y ≡ false → (0 < s .present) × (named (s .book) (pos (s .present)) ≡ s .present)))
+      → entry sc (not (s .forward)) (lineAt (sc .lines) (f .line) .q) ≡ s .position
+      → left sc l s f fs ≡ Ok t
+      → entered sc (f .line) (flipped t) (across (lineAt (sc .lines) (f .line) .kind) (not (t .forward))) ≡ Ok (flipped s)
   left-back t f fs tops counts few mine place e =
-    passed _ _ e λ v still last.
-    let d = lineAt (sc .lines) (f .line) in
-    let c′ = flipped (caller sc f fs s) in
-    rw (sym (ok-same last))
+      passed _ _ e λ v still last.
+      let d = lineAt (sc .lines) (f .line) in
+      let c′ = flipped (caller sc f fs s) in
+      rw (sym (ok-same last))
       (entered-at sc (f .line) c′ (across (d .kind) (not (caller sc f fs s .forward))) (s .present) few (callee-from c′ (d .y) (s .present) (mine .0) (mine .1) still)
-        ∙ ap {B = Result State Refusal} (λ fw. Ok (record { position = entry sc fw (d .q); forward = fw; present = s .present; locals = s .locals; frames = record { line = f .line; former = f .former; count = length (s .locals) } ∷ fs; book = s .book }))
-            (across-twice (d .kind) (s .forward))
-        ∙ ap₂ {C = Result State Refusal} (λ p gs. Ok (record { position = p; forward = not (s .forward); present = s .present; locals = s .locals; frames = gs; book = s .book })) place
-            (ap {B = List Frame} (λ n. record { line = f .line; former = f .former; count = n } ∷ fs) (sym counts) ∙ sym tops))
+      ∙ ap {B = Result State Refusal} (λ fw. Ok (record { position = entry sc fw (d .q); forward = fw; present = s .present; locals = s .locals; frames = record { line = f .line; former = f .former; count = length (s .locals) } ∷ fs; book = s .book }))
+      (across-twice (d .kind) (s .forward))
+      ∙ ap₂ {C = Result State Refusal} (λ p gs. Ok (record { position = p; forward = not (s .forward); present = s .present; locals = s .locals; frames = gs; book = s .book })) place
+      (ap {B = List Frame} (λ n. record { line = f .line; former = f .former; count = n } ∷ fs) (sym counts) ∙ sym tops))

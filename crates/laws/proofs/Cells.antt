@@ -58,14 +58,14 @@ restored b i j l x y z ij il jl =
     let p = getD b i (pos 0) in
     let q = getD b j (pos 0) in
     let r = getD b l (pos 0) in
-    rw
-      ( set-comm (set (set b i x) j y) l j z q (λ e. jl (sym e))
-      , set-set (set b i x) j y q
-      , set-comm (set (set b i x) j q) l i z p (λ e. il (sym e))
-      , set-comm (set b i x) j i q p (λ e. ij (sym e))
-      , set-set b i x p
-      , set-getD b i (pos 0)
-      , set-getD b j (pos 0)
-      , set-set b l z r
-      )
-      (set-getD b l (pos 0))
+    rw (
+      set-comm (set (set b i x) j y) l j z q (λ e. jl (sym e)),
+      set-set (set b i x) j y q,
+      set-comm (set (set b i x) j q) l i z p (λ e. il (sym e)),
+      set-comm (set b i x) j i q p (λ e. ij (sym e)),
+      set-set b i x p,
+      set-getD b i (pos 0),
+      set-getD b j (pos 0),
+      set-set b l z r,
+    )
+    (set-getD b l (pos 0))

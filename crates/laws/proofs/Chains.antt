@@ -49,7 +49,6 @@ unfolding need
 needed true n e = refl
 needed false n e = ok-err e
 
-
 -- no refusal has the number of success
 pub not-zero : (r : Refusal) → number r ≡ 0 → ⊥
 not-zero TooLong e = omega arith

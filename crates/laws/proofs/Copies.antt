@@ -42,31 +42,37 @@ module _ (sc : Script) (l : ℕ) (s t : State) (u w : Spot) (here : At l s)
   pub copied-back : (u ≡ w → ⊥) → copied sc l s ≡ Ok t → Undone (uncopied sc l) l s t
   unfolding came
   copied-back apart e =
-    passed _ _ e λ u′ at₁ rest.
-    passed _ _ (rw (ok-same (sym at₁ ∙ first)) at rest) λ w′ at₂ rest.
-    held _ _ _ (rw (ok-same (sym at₂ ∙ second)) at rest) λ nil last.
-    let v = read s u in
-    let seen : read (write w v s) w ≡ read (write w v s) u = read-same s w v in₂ ∙ sym (read-other s w u v (λ e. apart (sym e))) in
-    rw (sym (ok-same last))
-      (refl, refl, uncopied-at sc l (came (write w v s)) u w first second (eqZ-from _ _ seen)
-        ∙ back-at l s (write w (pos 0) (write w v s)) here (write-same s w (pos 0) v ∙ ap (λ a. write w a s) (sym (eqZ-true _ _ nil)) ∙ write-read s w))
+      passed _ _ e λ u′ at₁ rest.
+      passed _ _ (rw (ok-same (sym at₁ ∙ first)) at rest) λ w′ at₂ rest.
+      held _ _ _ (rw (ok-same (sym at₂ ∙ second)) at rest) λ nil last.
+      let v = read s u in
+      let seen : read (write w v s) w ≡ read (write w v s) u = read-same s w v in₂ ∙ sym (read-other s w u v (λ e. apart (sym e))) in
+      rw (sym (ok-same last)) (
+        refl,
+        refl,
+        uncopied-at sc l (came (write w v s)) u w first second (eqZ-from _ _ seen)
+            ∙ back-at l s (write w (pos 0) (write w v s)) here (write-same s w (pos 0) v ∙ ap (λ a. write w a s) (sym (eqZ-true _ _ nil)) ∙ write-read s w),
+      )
 
   pub uncopied-back : (u ≡ w → ⊥) → uncopied sc l s ≡ Ok t → Undone (copied sc l) l s t
   unfolding came
   uncopied-back apart e =
-    passed _ _ e λ u′ at₁ rest.
-    passed _ _ (rw (ok-same (sym at₁ ∙ first)) at rest) λ w′ at₂ rest.
-    held _ _ _ (rw (ok-same (sym at₂ ∙ second)) at rest) λ same last.
-    let c = write w (pos 0) s in
-    rw (sym (ok-same last))
-      (refl, refl, copied-at sc l (came c) u w first second (eqZ-from _ _ (read-same s w (pos 0) in₂))
-        ∙ back-at l s (write w (read c u) c) here
-            (write-same s w (read c u) (pos 0) ∙ ap (λ a. write w a s) (read-other s w u (pos 0) (λ e. apart (sym e)) ∙ sym (eqZ-true _ _ same)) ∙ write-read s w))
+      passed _ _ e λ u′ at₁ rest.
+      passed _ _ (rw (ok-same (sym at₁ ∙ first)) at rest) λ w′ at₂ rest.
+      held _ _ _ (rw (ok-same (sym at₂ ∙ second)) at rest) λ same last.
+      let c = write w (pos 0) s in
+      rw (sym (ok-same last)) (
+        refl,
+        refl,
+        copied-at sc l (came c) u w first second (eqZ-from _ _ (read-same s w (pos 0) in₂))
+            ∙ back-at l s (write w (read c u) c) here
+            (write-same s w (read c u) (pos 0) ∙ ap (λ a. write w a s) (read-other s w u (pos 0) (λ e. apart (sym e)) ∙ sym (eqZ-true _ _ same)) ∙ write-read s w),
+      )
 
   pub swapped-back : swapped sc l s ≡ Ok t → Undone (swapped sc l) l s t
   unfolding came
   swapped-back e =
-    passed _ _ e λ u′ at₁ rest.
-    passed _ _ (rw (ok-same (sym at₁ ∙ first)) at rest) λ w′ at₂ rest.
-    rw (sym (ok-same (rw (ok-same (sym at₂ ∙ second)) at rest)))
+      passed _ _ e λ u′ at₁ rest.
+      passed _ _ (rw (ok-same (sym at₁ ∙ first)) at rest) λ w′ at₂ rest.
+      rw (sym (ok-same (rw (ok-same (sym at₂ ∙ second)) at rest)))
       (refl, refl, swapped-at sc l (came (exchange u w s)) u w first second ∙ back-at l s (exchange u w (exchange u w s)) here (exchange-twice s u w in₁ in₂))

@@ -79,10 +79,10 @@ module _ (sc : Script) (q : ℕ) (d : Bool) where
 
   -- a state with other words, as many, at another position of the method
   pub keep : (s : State) → Fit s → (p : ℕ) (lc bk : List ℤ) → p ≤ length (sc .lines) → In (cur sc q (s .frames)) (stackAt (sc .lines) p)
-    → length lc ≡ base (s .frames) + depth (stackAt (sc .lines) p) → length lc ≤ 256 → length bk ≡ length (s .book) → All IsWord lc → All IsWord bk
-    → Fit (record { position = p; forward = s .forward; present = s .present; locals = lc; frames = s .frames; book = bk })
+      → length lc ≡ base (s .frames) + depth (stackAt (sc .lines) p) → length lc ≤ 256 → length bk ≡ length (s .book) → All IsWord lc → All IsWord bk
+      → Fit (record { position = p; forward = s .forward; present = s .present; locals = lc; frames = s .frames; book = bk })
   keep s F p lc bk high within deep few same words ws =
-    record {
+      record {
         high = high;
         within = within;
         heads = F .heads;
@@ -90,7 +90,7 @@ module _ (sc : Script) (q : ℕ) (d : Bool) where
         few = few;
         chain = subst (λ n. Chain sc q ((n - 81) / 8) (s .frames) (s .present)) (sym same) (F .chain);
         book = and-from (fits (length bk)) (allWords bk) (sized same (and-parts (fits (length (s .book))) (allWords (s .book)) (F .book) .0)) (words-to bk ws);
-        words = words
+        words = words;
       }
     where
       sized : length bk ≡ length (s .book) → fits (length (s .book)) ≡ true → fits (length bk) ≡ true
@@ -143,17 +143,17 @@ module _ (sc : Script) (ok : checked sc ≡ accepted) (l : ℕ) (inside : l < le
   pub pass : (fw : Bool) (k m : ℕ) → met fw (ln .kind) ≡ k → (k ≡ 0 → ⊥) → (k ≡ 1 → ⊥) → In m (st (past (not fw) l)) → In m (st (past fw l))
   pass true k m h n o i = subst (In m) (sym (stack-next (sc .lines) l inside)) (in-after m (st l) ln (found sc ok l inside .nested) i (λ e. o (sym h ∙ e)))
   pass false k m h n o i =
-    in-before m (st l) ln (found sc ok l inside .nested) (subst (In m) (stack-next (sc .lines) l inside) i) (λ e. o (sym h ∙ ap turnedKind e)) (λ e. n (sym h ∙ ap turnedKind e))
+      in-before m (st l) ln (found sc ok l inside .nested) (subst (In m) (stack-next (sc .lines) l inside) i) (λ e. o (sym h ∙ ap turnedKind e)) (λ e. n (sym h ∙ ap turnedKind e))
 
   pub pass-depth : (fw : Bool) (k : ℕ) → met fw (ln .kind) ≡ k → (k ≡ 8 → ⊥) → (k ≡ 9 → ⊥) → depth (st (past fw l)) ≡ depth (st (past (not fw) l))
   pass-depth true k h n o = ap depth (stack-next (sc .lines) l inside) ∙ depth-same (st l) ln (found sc ok l inside .nested) (λ e. n (sym h ∙ e)) (λ e. o (sym h ∙ e))
   pass-depth false k h n o =
-    sym (ap depth (stack-next (sc .lines) l inside) ∙ depth-same (st l) ln (found sc ok l inside .nested) (λ e. o (sym h ∙ ap turnedKind e)) (λ e. n (sym h ∙ ap turnedKind e)))
+      sym (ap depth (stack-next (sc .lines) l inside) ∙ depth-same (st l) ln (found sc ok l inside .nested) (λ e. o (sym h ∙ ap turnedKind e)) (λ e. n (sym h ∙ ap turnedKind e)))
 
   pub opens-depth : (fw : Bool) → met fw (ln .kind) ≡ 8 → depth (st (past fw l)) ≡ suc (depth (st (past (not fw) l)))
   opens-depth true h = ap depth (stack-next (sc .lines) l inside) ∙ depth-local (st l) ln h
   opens-depth false h =
-    depth-delocal (st l) ln (found sc ok l inside .nested) (kind-of false (ln .kind) 8 h) ∙ ap (λ x. suc (depth x)) (sym (stack-next (sc .lines) l inside))
+      depth-delocal (st l) ln (found sc ok l inside .nested) (kind-of false (ln .kind) 8 h) ∙ ap (λ x. suc (depth x)) (sym (stack-next (sc .lines) l inside))
 
   pub closes-depth : (fw : Bool) → met fw (ln .kind) ≡ 9 → depth (st (past (not fw) l)) ≡ suc (depth (st (past fw l)))
   closes-depth true h = depth-delocal (st l) ln (found sc ok l inside .nested) h ∙ ap (λ x. suc (depth x)) (sym (stack-next (sc .lines) l inside))

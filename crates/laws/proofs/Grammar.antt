@@ -96,10 +96,10 @@ closing ts (o ∷ os) pre l (begun _ front body k g m b) n h f =
     let e : suc (o .kind) ≡ l .kind = closing-kind o [] l n h in
     let one : l .kind ≡ 1 = omega arith in
     subst (Read ts []) (sym (append-assoc front (o ∷ body) (l ∷ [])))
-      (outside (front ++ o ∷ (body ++ l ∷ [])) (joined-methods m (method o l body [] k one (closing-q o [] l n one) g (subst (λ d. Fits ts d l) (begin-depth o k) f) b none)))
+    (outside (front ++ o ∷ (body ++ l ∷ [])) (joined-methods m (method o l body [] k one (closing-q o [] l n one) g (subst (λ d. Fits ts d l) (begin-depth o k) f) b none)))
 closing ts (o ∷ os) pre l (deeper _ p os′ front body i g r b) n h f =
     subst (Read ts (p ∷ os′)) (sym (append-assoc front (o ∷ body) (l ∷ [])))
-      (extended ts p os′ front (o ∷ (body ++ l ∷ [])) r (ended-pair ts o l (depth (p ∷ os′)) body i (closing-kind o (p ∷ os′) l n h) g f b))
+    (extended ts p os′ front (o ∷ (body ++ l ∷ [])) r (ended-pair ts o l (depth (p ∷ os′)) body i (closing-kind o (p ∷ os′) l n h) g f b))
 
 staying : (ts : List Term) (os pre : List Line) (l : Line) → Read ts os pre → nests os l ≡ true → bracket (l .kind) ≡ false → Fits ts (depth os) l → Read ts os (pre ++ l ∷ [])
 staying ts [] pre l r n h f = absurd (false≢true (sym h ∙ ap bracket (eqb-true (l .kind) 0 n)))
@@ -120,24 +120,24 @@ read-all sc k os pre (l ∷ ls) r h =
     let (here, rest) = walked-on sc k os l ls h in
     let p = judged-parts sc k os l here in
     subst (Methods (sc .terms)) (append-assoc pre (l ∷ []) ls)
-      (read-all sc (suc k) (after os l) (pre ++ l ∷ []) ls (read-line (sc .terms) os pre l r (p .nested) (fitting sc k os l p)) rest)
+    (read-all sc (suc k) (after os l) (pre ++ l ∷ []) ls (read-line (sc .terms) os pre l r (p .nested) (fitting sc k os l p)) rest)
 
 pub allowed-from : (sc : Script) → checked sc ≡ accepted → Allowed sc
 allowed-from sc ok =
     let (sizes, walk) = checked-parts sc ok in
     let (few, short) = and-parts (leb (length (sc .lines)) 256) (leb (length (sc .terms)) 1024) sizes in
     record {
-        lines = leb-true (length (sc .lines)) 256 few;
-        terms = leb-true (length (sc .terms)) 1024 short;
-        methods = read-all sc 0 [] [] (sc .lines) (outside [] none) walk;
-        once = λ q i j (hi, ki, qi) (hj, kj, qj).
+      lines = leb-true (length (sc .lines)) 256 few;
+      terms = leb-true (length (sc .terms)) 1024 short;
+      methods = read-all sc 0 [] [] (sc .lines) (outside [] none) walk;
+      once = λ q i j (hi, ki, qi) (hj, kj, qj).
           sym (begin-is sc ok i hi ki) ∙ ap (λ x. whereIs 0 x (sc .lines)) (qi ∙ sym qj) ∙ begin-is sc ok j hj kj;
-        called = λ k h c.
+      called = λ k h c.
           let q = lineAt (sc .lines) k .q in
           let inside = ltb-true (whereIs 0 q (sc .lines)) (length (sc .lines)) (calls-method sc ok k h c) in
           let (kind, name) = where-at 0 q (sc .lines) inside in
-          (whereIs 0 q (sc .lines), (inside, kind, name))
-      }
+          (whereIs 0 q (sc .lines), (inside, kind, name));
+    }
 
 -- ---- from the grammar to the check
 
@@ -164,7 +164,7 @@ nest-inside o os l n c = and-from (not (eqb (l .kind) 0)) _ (not-from-false _ (n
 nest-close : (o : Line) (os : List Line) (l : Line) → suc (o .kind) ≡ l .kind → (l .kind ≡ 1 → o .q ≡ l .q) → nests (o ∷ os) l ≡ true
 nest-close o os l s q =
     and-from (not (eqb (l .kind) 0)) _ (not-from-false _ (ne-eqb (l .kind) 0 (λ z. omega arith)))
-      (or-right (not (closes (l .kind))) _ (and-from (eqb (suc (o .kind)) (l .kind)) _ (eq-eqb (suc (o .kind)) (l .kind) s) (by (eqb (l .kind) 1) refl)))
+    (or-right (not (closes (l .kind))) _ (and-from (eqb (suc (o .kind)) (l .kind)) _ (eq-eqb (suc (o .kind)) (l .kind) s) (by (eqb (l .kind) 1) refl)))
   where
     by : (b : Bool) → eqb (l .kind) 1 ≡ b → (not b || eqb (o .q) (l .q)) ≡ true
     by true e = eq-eqb (o .q) (l .q) (q (eqb-true (l .kind) 1 e))
@@ -181,11 +181,11 @@ module _ (sc : Script) where
       → walked sc (suc k) (o ∷ p ∷ os) (inner ++ c ∷ rest) ≡ walked sc (suc k + length inner) (o ∷ p ∷ os) (c ∷ rest)
       → walked sc k (p ∷ os) (o ∷ (inner ++ c ∷ rest)) ≡ walked sc (k + suc (length inner + 1)) (p ∷ os) rest
   over-pair k d e p os o c inner rest deep deep′ n op cl s cop ccl m f g between =
-    on-line sc k d (p ∷ os) o (inner ++ c ∷ rest) deep (nest-inside p os o n cl) (no-begin sc k o n) f
-    ∙ ap (λ x. walked sc (suc k) x (inner ++ c ∷ rest)) (after-opener (p ∷ os) o op)
-    ∙ between
-    ∙ on-line sc (suc k + length inner) e (o ∷ p ∷ os) c rest deep′ (nest-close o (p ∷ os) c s (λ z. absurd (m z))) (no-begin sc (suc k + length inner) c (λ z. omega arith)) g
-    ∙ ap₂ (λ j x. walked sc j x rest) (sum k (length inner)) (after-closer (o ∷ p ∷ os) c cop ccl)
+      on-line sc k d (p ∷ os) o (inner ++ c ∷ rest) deep (nest-inside p os o n cl) (no-begin sc k o n) f
+      ∙ ap (λ x. walked sc (suc k) x (inner ++ c ∷ rest)) (after-opener (p ∷ os) o op)
+      ∙ between
+      ∙ on-line sc (suc k + length inner) e (o ∷ p ∷ os) c rest deep′ (nest-close o (p ∷ os) c s (λ z. absurd (m z))) (no-begin sc (suc k + length inner) c (λ z. omega arith)) g
+      ∙ ap₂ (λ j x. walked sc j x rest) (sum k (length inner)) (after-closer (o ∷ p ∷ os) c cop ccl)
     where
       sum : (k n : ℕ) → suc (suc k + n) ≡ k + suc (n + 1)
       sum k n = omega arith
@@ -205,6 +205,7 @@ module _ (sc : Script) where
     where
       sum : (k m n t : ℕ) → t ≡ m + suc n → k + suc (m + 1) + n ≡ k + suc t
       sum k m n t e = omega arith
+
       onward : (depth (o ∷ p ∷ os) ≡ d → walked sc (suc k) (o ∷ p ∷ os) (a ++ c ∷ (r ++ rest)) ≡ walked sc (suc k + length a) (o ∷ p ∷ os) (c ∷ (r ++ rest)))
           → walked sc (k + suc (length a + 1)) (p ∷ os) (r ++ rest) ≡ walked sc (k + suc (length a + 1) + length r) (p ∷ os) rest
           → (i : ℕ) → o .kind ≡ i → c .kind ≡ suc i → (i ≡ 0 → ⊥) → (i ≡ 8 → ⊥) → opens i ≡ true → closes i ≡ false → opens (suc i) ≡ false → closes (suc i) ≡ true
@@ -213,9 +214,10 @@ module _ (sc : Script) where
           let same : depth (o ∷ p ∷ os) ≡ d = rw (ne-eqb (o .kind) 8 (λ z. n8 (sym ok ∙ z))) deep in
           ap (λ x. walked sc k (p ∷ os) (o ∷ x)) (append-assoc a (c ∷ r) rest)
           ∙ over-pair k d d p os o c a (r ++ rest) deep same (λ z. n0 (sym ok ∙ z)) (ap opens ok ∙ op) (ap closes ok ∙ cl) (ap suc ok ∙ sym ck) (ap opens ck ∙ cop) (ap closes ck ∙ ccl)
-              (λ z. omega arith) f g (between same)
+          (λ z. omega arith) f g (between same)
           ∙ rests
           ∙ ap (λ t. walked sc t (p ∷ os) rest) (sum k (length a) (length r) (length (a ++ c ∷ r)) (length-append a (c ∷ r)))
+
       by : Joined o c → (depth (o ∷ p ∷ os) ≡ d → walked sc (suc k) (o ∷ p ∷ os) (a ++ c ∷ (r ++ rest)) ≡ walked sc (suc k + length a) (o ∷ p ∷ os) (c ∷ (r ++ rest)))
           → walked sc (k + suc (length a + 1)) (p ∷ os) (r ++ rest) ≡ walked sc (k + suc (length a + 1) + length r) (p ∷ os) rest
           → walked sc k (p ∷ os) ((o ∷ (a ++ c ∷ r)) ++ rest) ≡ walked sc (k + length (o ∷ (a ++ c ∷ r))) (p ∷ os) rest
@@ -225,7 +227,7 @@ module _ (sc : Script) where
       let same : depth (o ∷ p ∷ os) ≡ suc d = rw ok (ap suc deep) in
       ap (λ x. walked sc k (p ∷ os) (o ∷ x)) (append-assoc a (c ∷ r) rest)
       ∙ over-pair k d (suc d) p os o c a (r ++ rest) deep same (λ z. omega arith) (ap opens ok) (ap closes ok) (ap suc ok ∙ sym ck) (ap opens ck) (ap closes ck)
-          (λ z. omega arith) f g (over-body b (suc k) o (p ∷ os) (c ∷ (r ++ rest)) same)
+      (λ z. omega arith) f g (over-body b (suc k) o (p ∷ os) (c ∷ (r ++ rest)) same)
       ∙ over-body s (k + suc (length a + 1)) p os rest deep
       ∙ ap (λ t. walked sc t (p ∷ os) rest) (sum k (length a) (length r) (length (a ++ c ∷ r)) (length-append a (c ∷ r)))
     where
@@ -237,29 +239,29 @@ module _ (sc : Script) where
     begins-first : (pre : List Line) (b : Line) (rest : List Line) → sc .lines ≡ pre ++ b ∷ rest → b .kind ≡ 0
         → (not (eqb (b .kind) 0) || eqb (whereIs 0 (b .q) (sc .lines)) (length pre)) ≡ true
     begins-first pre b rest e k =
-      let n = length pre in
-      let at : lineAt (sc .lines) n ≡ b = ap (λ ls. lineAt ls n) e ∙ getD-at pre b rest noLine n refl in
-      let kind : lineAt (sc .lines) n .kind ≡ 0 = ap (λ l. l .kind) at ∙ k in
-      let name : lineAt (sc .lines) n .q ≡ b .q = ap (λ l. l .q) at in
-      let inside : n < length (sc .lines) = omega (arith, ap length e, length-append pre (b ∷ rest)) in
-      let low = where-hit 0 (b .q) (sc .lines) n inside kind name in
-      let first : whereIs 0 (b .q) (sc .lines) < length (sc .lines) = omega arith in
-      let (wk, wq) = where-at 0 (b .q) (sc .lines) first in
-      or-right (not (eqb (b .kind) 0)) _ (eq-eqb _ n (all .once (b .q) (whereIs 0 (b .q) (sc .lines)) n (first, wk, wq) (inside, kind, name)))
+        let n = length pre in
+        let at : lineAt (sc .lines) n ≡ b = ap (λ ls. lineAt ls n) e ∙ getD-at pre b rest noLine n refl in
+        let kind : lineAt (sc .lines) n .kind ≡ 0 = ap (λ l. l .kind) at ∙ k in
+        let name : lineAt (sc .lines) n .q ≡ b .q = ap (λ l. l .q) at in
+        let inside : n < length (sc .lines) = omega (arith, ap length e, length-append pre (b ∷ rest)) in
+        let low = where-hit 0 (b .q) (sc .lines) n inside kind name in
+        let first : whereIs 0 (b .q) (sc .lines) < length (sc .lines) = omega arith in
+        let (wk, wq) = where-at 0 (b .q) (sc .lines) first in
+        or-right (not (eqb (b .kind) 0)) _ (eq-eqb _ n (all .once (b .q) (whereIs 0 (b .q) (sc .lines)) n (first, wk, wq) (inside, kind, name)))
 
     over-methods : {ms : List Line} → Methods (sc .terms) ms → (pre : List Line) → sc .lines ≡ pre ++ ms → walked sc (length pre) [] ms ≡ calls (sc .lines) 0 (sc .lines)
     over-methods none pre e = refl
     over-methods (method b c body rest bk ck same f g p ms) pre e =
-      let n = length pre in
-      let flat : depth (b ∷ []) ≡ 0 = begin-depth b bk in
-      let next : sc .lines ≡ (pre ++ b ∷ (body ++ c ∷ [])) ++ rest =
-          e ∙ ap (λ x. pre ++ b ∷ x) (sym (append-assoc body (c ∷ []) rest)) ∙ sym (append-assoc pre (b ∷ (body ++ c ∷ [])) rest) in
-      on-line sc n 0 [] b (body ++ c ∷ rest) refl (eq-eqb (b .kind) 0 bk) (begins-first pre b (body ++ c ∷ rest) e bk) f
-      ∙ ap (λ x. walked sc (suc n) x (body ++ c ∷ rest)) (after-opener [] b (ap opens bk))
-      ∙ over-body p (suc n) b [] (c ∷ rest) flat
-      ∙ on-line sc (suc n + length body) 0 (b ∷ []) c rest flat (nest-close b [] c (ap suc bk ∙ sym ck) (λ _. same)) (no-begin sc (suc n + length body) c (λ z. omega arith)) g
-      ∙ ap₂ (λ j x. walked sc j x rest) (sum n (length body) (length (body ++ c ∷ [])) (length (pre ++ b ∷ (body ++ c ∷ []))) (length-append body (c ∷ [])) (length-append pre (b ∷ (body ++ c ∷ [])))) (after-closer (b ∷ []) c (ap opens ck) (ap closes ck))
-      ∙ over-methods ms (pre ++ b ∷ (body ++ c ∷ [])) next
+        let n = length pre in
+        let flat : depth (b ∷ []) ≡ 0 = begin-depth b bk in
+        let next : sc .lines ≡ (pre ++ b ∷ (body ++ c ∷ [])) ++ rest =
+        e ∙ ap (λ x. pre ++ b ∷ x) (sym (append-assoc body (c ∷ []) rest)) ∙ sym (append-assoc pre (b ∷ (body ++ c ∷ [])) rest) in
+        on-line sc n 0 [] b (body ++ c ∷ rest) refl (eq-eqb (b .kind) 0 bk) (begins-first pre b (body ++ c ∷ rest) e bk) f
+        ∙ ap (λ x. walked sc (suc n) x (body ++ c ∷ rest)) (after-opener [] b (ap opens bk))
+        ∙ over-body p (suc n) b [] (c ∷ rest) flat
+        ∙ on-line sc (suc n + length body) 0 (b ∷ []) c rest flat (nest-close b [] c (ap suc bk ∙ sym ck) (λ _. same)) (no-begin sc (suc n + length body) c (λ z. omega arith)) g
+        ∙ ap₂ (λ j x. walked sc j x rest) (sum n (length body) (length (body ++ c ∷ [])) (length (pre ++ b ∷ (body ++ c ∷ []))) (length-append body (c ∷ [])) (length-append pre (b ∷ (body ++ c ∷ [])))) (after-closer (b ∷ []) c (ap opens ck) (ap closes ck))
+        ∙ over-methods ms (pre ++ b ∷ (body ++ c ∷ [])) next
       where
         sum : (n m t u : ℕ) → t ≡ m + 1 → u ≡ n + suc t → suc (suc n + m) ≡ u
         sum n m t u e f = omega arith
@@ -267,8 +269,8 @@ module _ (sc : Script) where
   calls-from : (k : ℕ) (ls : List Line) → ((i : ℕ) → i < length ls → within 16 17 (lineAt ls i .kind) ≡ true → hasMethod (sc .lines) (lineAt ls i .q) ≡ true) → calls (sc .lines) k ls ≡ accepted
   calls-from k [] h = refl
   calls-from k (l ∷ ls) h =
-    ap (λ b. elim b as (λ _. Verdict Refusal) [ true ↦ rejected WrongMethod k | false ↦ calls (sc .lines) (suc k) ls ]) (by (within 16 17 (l .kind)) refl)
-    ∙ calls-from (suc k) ls (λ i n w. h (suc i) (omega arith) w)
+      ap (λ b. elim b as (λ _. Verdict Refusal) [ true ↦ rejected WrongMethod k | false ↦ calls (sc .lines) (suc k) ls ]) (by (within 16 17 (l .kind)) refl)
+      ∙ calls-from (suc k) ls (λ i n w. h (suc i) (omega arith) w)
     where
       by : (b : Bool) → within 16 17 (l .kind) ≡ b → (b && not (hasMethod (sc .lines) (l .q))) ≡ false
       by true e = not-from-true _ (h 0 (omega arith) e)

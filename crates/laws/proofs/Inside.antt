@@ -126,11 +126,13 @@ across-pair ls block i h b fw = by (pairs block i h b) fw
     at-opener : (p : Paired ls) (fw : Bool) → stackAt ls (past fw (partner ls (openAt ls p))) ≡ stackAt ls (past (not fw) (openAt ls p))
     at-opener p true = ap (λ m. stackAt ls (suc m)) (partner-open ls p) ∙ stack-closed ls p ∙ sym (stack-open ls p)
     at-opener p false = ap (stackAt ls) (partner-open ls p) ∙ stack-close ls p ∙ sym (stack-opened ls p)
+
     at-closer : (p : Paired ls) (fw : Bool) → stackAt ls (past fw (partner ls (closeAt ls p))) ≡ stackAt ls (past (not fw) (closeAt ls p))
     at-closer p true = ap (λ m. stackAt ls (suc m)) (partner-close ls p) ∙ stack-opened ls p ∙ sym (stack-close ls p)
     at-closer p false = ap (stackAt ls) (partner-close ls p) ∙ stack-open ls p ∙ sym (stack-closed ls p)
+
     by : Has ls i → (fw : Bool) → stackAt ls (past fw (partner ls i)) ≡ stackAt ls (past (not fw) i)
-    by (p, inl e) fw = subst (λ j. stackAt ls (past fw (partner ls j)) ≡ stackAt ls (past (not fw) j)) (sym e) (at-opener p fw) 
+    by (p, inl e) fw = subst (λ j. stackAt ls (past fw (partner ls j)) ≡ stackAt ls (past (not fw) j)) (sym e) (at-opener p fw)
     by (p, inr e) fw = subst (λ j. stackAt ls (past fw (partner ls j)) ≡ stackAt ls (past (not fw) j)) (sym e) (at-closer p fw)
 
 pub partner-in : (ls : List Line) → Block ls → (i : ℕ) → i < length ls → bracket (lineAt ls i .kind) ≡ true → partner ls i < length ls
@@ -153,5 +155,6 @@ in-range ls block q p h i = (⊎-elim (λ e. absurd (low e)) (λ n. omega arith)
   where
     low : p ≡ 0 → ⊥
     low e = let n = some q [] (rw e at i) in omega arith
+
     high : p ≡ length ls → ⊥
     high e = let n = some q [] (subst (In q) (stack-all ls block) (rw e at i)) in omega arith

@@ -87,11 +87,11 @@ module _ (sc : Script) (l : ℕ) (s : State) where
 
   pub record Returns : Type 0 where
     pub frame : (f : Frame) (fs : List Frame) → s .frames ≡ f ∷ fs
-      → (let c = lineAt (sc .lines) (f .line) in
-          (f .count ≡ length (s .locals)) × (length fs < 64)
-          × ((isNone (c .y) ≡ true → s .present ≡ f .former) × (isNone (c .y) ≡ false → (0 < s .present) × (named (s .book) (pos (s .present)) ≡ s .present)))
-          × (entry sc (not (s .forward)) (c .q) ≡ s .position)
-          × ((c .kind ≡ 16) ⊎ (c .kind ≡ 17)))
+        → (let c = lineAt (sc .lines) (f .line) in
+        (f .count ≡ length (s .locals)) × (length fs < 64)
+        × ((isNone (c .y) ≡ true → s .present ≡ f .former) × (isNone (c .y) ≡ false → (0 < s .present) × (named (s .book) (pos (s .present)) ≡ s .present)))
+        × (entry sc (not (s .forward)) (c .q) ≡ s .position)
+        × ((c .kind ≡ 16) ⊎ (c .kind ≡ 17)))
 
 abbrev pub asks : List (Script → ℕ → State → Type 0)
 asks =
@@ -140,17 +140,17 @@ law-7 sc l s t here h asked e =
 law-2 : (sc : Script) → Law sc 2
 law-2 sc l s t here h asked e =
     by-line sc l 3 s t (turn sc l 2 s h)
-      (changed-back sc l (λ a b. word (a +ℤ b)) (λ a b. word (a -ℤ b)) s t (asked .depth) here (asked .place) (asked .terms) (asked .apart) (λ v u at. add-undone (read s u) v (asked .word u at)) e)
+    (changed-back sc l (λ a b. word (a +ℤ b)) (λ a b. word (a -ℤ b)) s t (asked .depth) here (asked .place) (asked .terms) (asked .apart) (λ v u at. add-undone (read s u) v (asked .word u at)) e)
 
 law-3 : (sc : Script) → Law sc 3
 law-3 sc l s t here h asked e =
     by-line sc l 2 s t (turn sc l 3 s h)
-      (changed-back sc l (λ a b. word (a -ℤ b)) (λ a b. word (a +ℤ b)) s t (asked .depth) here (asked .place) (asked .terms) (asked .apart) (λ v u at. sub-undone (read s u) v (asked .word u at)) e)
+    (changed-back sc l (λ a b. word (a -ℤ b)) (λ a b. word (a +ℤ b)) s t (asked .depth) here (asked .place) (asked .terms) (asked .apart) (λ v u at. sub-undone (read s u) v (asked .word u at)) e)
 
 law-14 : (sc : Script) → Law sc 14
 law-14 sc l s t here h asked e =
     by-line sc l 14 s t (turn sc l 14 s h)
-      (changed-back sc l (onBits bitXor) (onBits bitXor) s t (asked .depth) here (asked .place) (asked .terms) (asked .apart) (λ v u at. xor-undone (read s u) v (asked .word u at)) e)
+    (changed-back sc l (onBits bitXor) (onBits bitXor) s t (asked .depth) here (asked .place) (asked .terms) (asked .apart) (λ v u at. xor-undone (read s u) v (asked .word u at)) e)
 
 law-8 : (sc : Script) → Law sc 8
 law-8 sc l s t here h asked e = by-line sc l 9 s t (turn sc l 8 s h) (opened-back sc l s t (asked .depth) here (asked .terms) (asked .opened) e)
@@ -230,9 +230,9 @@ law-1 sc l s t here h asked e = by (s .frames) refl e
         passed _ _ e λ v still last.
         let at : turnOf (flipped t) ≡ f .line = rw (sym (ok-same last)) (turn-past (across (lineAt (sc .lines) (f .line) .kind) (s .forward)) (f .line)) in
         ⊎-elim
-          (λ is. stepped sc (flipped t) (f .line) 16 at (rw is (met-stays (not (t .forward)) 16 refl)) ∙ (rw is at back))
-          (λ is. stepped sc (flipped t) (f .line) 17 at (rw is (met-stays (not (t .forward)) 17 refl)) ∙ (rw is at back))
-          kind
+        (λ is. stepped sc (flipped t) (f .line) 16 at (rw is (met-stays (not (t .forward)) 16 refl)) ∙ (rw is at back))
+        (λ is. stepped sc (flipped t) (f .line) 17 at (rw is (met-stays (not (t .forward)) 17 refl)) ∙ (rw is at back))
+        kind
 
 law-0 : (sc : Script) → Law sc 0
 law-0 sc l s t here h asked e = ok-err e
@@ -246,6 +246,6 @@ pub steps-back : (sc : Script) (s t : State) → At (turnOf s) s → Asks (kindM
 unfolding step
 steps-back sc s t here asked e =
     ⊎-elim
-      (λ low. each-at (Law sc) 0 18 (kindMet sc s) (laws sc) (omega arith) (omega arith) (turnOf s) s t here refl asked e)
-      (λ high. ok-err (ap (λ r. r sc (turnOf s) s) (sym (getD-past rules (kindMet sc s) (λ _ _ _. Err Unknown) high)) ∙ e))
-      (cases-lt (kindMet sc s) 18)
+    (λ low. each-at (Law sc) 0 18 (kindMet sc s) (laws sc) (omega arith) (omega arith) (turnOf s) s t here refl asked e)
+    (λ high. ok-err (ap (λ r. r sc (turnOf s) s) (sym (getD-past rules (kindMet sc s) (λ _ _ _. Err Unknown) high)) ∙ e))
+    (cases-lt (kindMet sc s) 18)

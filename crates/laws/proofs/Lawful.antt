@@ -89,12 +89,12 @@ module _ (sc : Script) (ok : checked sc ≡ accepted) where
 
   enters : (q : ℕ) (d : Bool) (a : List ℤ) → isBook a ≡ true → hasMethod (sc .lines) q ≡ true → Fit sc q d (start sc d q a)
   enters q d a is h =
-    let (high, within, none) = entered-in sc ok q (method-of sc ok q h) d in
-    record { high = high; within = within; heads = refl; deep = omega arith; few = omega arith; chain = refl; book = is; words = tt }
+      let (high, within, none) = entered-in sc ok q (method-of sc ok q h) d in
+      record { high = high; within = within; heads = refl; deep = omega arith; few = omega arith; chain = refl; book = is; words = tt }
 
   flips : (q : ℕ) (d : Bool) (s : State) → Fit sc q d s → Fit sc q (not d) (flipped s)
   flips q d s F =
-    record { high = F .high; within = F .within; heads = ap not (F .heads) ∙ sym (way-other sc d (s .frames)); deep = F .deep; few = F .few; chain = F .chain; book = F .book; words = F .words }
+      record { high = F .high; within = F .within; heads = ap not (F .heads) ∙ sym (way-other sc d (s .frames)); deep = F .deep; few = F .few; chain = F .chain; book = F .book; words = F .words }
 
   -- turned round at its start, a method is finished
   starts-at : (q : ℕ) (d : Bool) (a : List ℤ) → hasMethod (sc .lines) q ≡ true → finished sc (flipped (start sc d q a)) ≡ true
@@ -107,30 +107,30 @@ module _ (sc : Script) (ok : checked sc ≡ accepted) where
 
   ends-at : (q : ℕ) (d : Bool) (s : State) → Fit sc q d s → finished sc s ≡ true → flipped s ≡ start sc (not d) q (s .book)
   ends-at q d s F h =
-    let (one, none) = and-parts (eqb (kindMet sc s) 1) (eqb (length (s .frames)) 0) h in
-    let k : kindMet sc s ≡ 1 = eqb-true (kindMet sc s) 1 one in
-    let fs : s .frames ≡ [] = nil-from-length (s .frames) (eqb-true (length (s .frames)) 0 none) in
-    let here = turn-at sc ok q d s F in
-    let m : cur sc q (s .frames) ≡ q = ap (cur sc q) fs in
-    let (flat, place) = at-return sc ok (turnOf s) (cur sc q (s .frames)) (turn-in sc ok q d s F) (s .forward) k (subst (λ p. In (cur sc q (s .frames)) (stackAt (sc .lines) p)) here (F .within)) in
-    let heads : s .forward ≡ d = F .heads ∙ ap (way sc d) fs in
-    let at : s .position ≡ entry sc (not d) q = here ∙ sym place ∙ ap₂ (λ b x. entry sc (not b) x) heads m in
-    let bare : base (s .frames) ≡ 0 = ap base fs in
-    let level : depth (stackAt (sc .lines) (s .position)) ≡ 0 = ap (λ p. depth (stackAt (sc .lines) p)) here ∙ flat in
-    let empty : s .locals ≡ [] = nil-from-length (s .locals) (let e = F .deep in omega arith) in
-    let absent : s .present ≡ 0 = subst (λ gs. Chain sc q (records (s .book)) gs (s .present)) fs (F .chain) in
-    λ i. record { position = at i; forward = not (heads i); present = absent i; locals = empty i; frames = fs i; book = s .book }
+      let (one, none) = and-parts (eqb (kindMet sc s) 1) (eqb (length (s .frames)) 0) h in
+      let k : kindMet sc s ≡ 1 = eqb-true (kindMet sc s) 1 one in
+      let fs : s .frames ≡ [] = nil-from-length (s .frames) (eqb-true (length (s .frames)) 0 none) in
+      let here = turn-at sc ok q d s F in
+      let m : cur sc q (s .frames) ≡ q = ap (cur sc q) fs in
+      let (flat, place) = at-return sc ok (turnOf s) (cur sc q (s .frames)) (turn-in sc ok q d s F) (s .forward) k (subst (λ p. In (cur sc q (s .frames)) (stackAt (sc .lines) p)) here (F .within)) in
+      let heads : s .forward ≡ d = F .heads ∙ ap (way sc d) fs in
+      let at : s .position ≡ entry sc (not d) q = here ∙ sym place ∙ ap₂ (λ b x. entry sc (not b) x) heads m in
+      let bare : base (s .frames) ≡ 0 = ap base fs in
+      let level : depth (stackAt (sc .lines) (s .position)) ≡ 0 = ap (λ p. depth (stackAt (sc .lines) p)) here ∙ flat in
+      let empty : s .locals ≡ [] = nil-from-length (s .locals) (let e = F .deep in omega arith) in
+      let absent : s .present ≡ 0 = subst (λ gs. Chain sc q (records (s .book)) gs (s .present)) fs (F .chain) in
+      λ i. record { position = at i; forward = not (heads i); present = absent i; locals = empty i; frames = fs i; book = s .book }
 
   pub lawful : Lawful (machine sc) Inv
   lawful = record {
-      inv-enter = λ q d a t h. enters q (ahead d) a (is-true _ t) (is-true _ h);
-      inv-step = λ q d s t F e. step-kept sc ok q (ahead d) s t F (next-go sc s t e);
-      inv-flip = λ q d s F. subst (λ x. Fit sc q x (flipped s)) (sym (ahead-other d)) (flips q (ahead d) s F);
-      inv-book = λ q d s F. to-T _ (F .book);
-      flip-flip = λ q d s F. ap (λ b. record { position = s .position; forward = b; present = s .present; locals = s .locals; frames = s .frames; book = s .book }) (not-not (s .forward));
-      book-flip = λ s. refl;
-      book-enter = λ q d a. refl;
-      reverse = λ q d s t F e. next-from sc (flipped t) (flipped s) (step-back sc ok q (ahead d) s t F (next-go sc s t e));
-      starts = λ q d a t h. next-end sc (flipped (start sc (ahead d) q a)) (starts-at q (ahead d) a (is-true _ h));
-      ends = λ q d s F e. ends-at q (ahead d) s F (next-finish sc s e) ∙ ap (λ b. start sc b q (s .book)) (sym (ahead-other d))
-    }
+    inv-enter = λ q d a t h. enters q (ahead d) a (is-true _ t) (is-true _ h);
+    inv-step = λ q d s t F e. step-kept sc ok q (ahead d) s t F (next-go sc s t e);
+    inv-flip = λ q d s F. subst (λ x. Fit sc q x (flipped s)) (sym (ahead-other d)) (flips q (ahead d) s F);
+    inv-book = λ q d s F. to-T _ (F .book);
+    flip-flip = λ q d s F. ap (λ b. record { position = s .position; forward = b; present = s .present; locals = s .locals; frames = s .frames; book = s .book }) (not-not (s .forward));
+    book-flip = λ s. refl;
+    book-enter = λ q d a. refl;
+    reverse = λ q d s t F e. next-from sc (flipped t) (flipped s) (step-back sc ok q (ahead d) s t F (next-go sc s t e));
+    starts = λ q d a t h. next-end sc (flipped (start sc (ahead d) q a)) (starts-at q (ahead d) a (is-true _ h));
+    ends = λ q d s F e. ends-at q (ahead d) s F (next-finish sc s e) ∙ ap (λ b. start sc b q (s .book)) (sym (ahead-other d));
+  }

@@ -65,6 +65,7 @@ exchange-twice s u w h k = ⊎-elim same differ (spots u w)
   where
     same : u ≡ w → exchange u w (exchange u w s) ≡ s
     same e = rw (sym e) (ap (exchange u u) (exchange-same s u) ∙ exchange-same s u)
+
     differ : (u ≡ w → ⊥) → exchange u w (exchange u w s) ≡ s
     differ n =
         let a = read s u in

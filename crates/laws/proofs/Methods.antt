@@ -46,6 +46,7 @@ where-at k q (l ∷ ls) h = ⊎-elim here (λ e. next e (where-at k q ls (omega 
   where
     here : test k q l ≡ true → (lineAt (l ∷ ls) (whereIs k q (l ∷ ls)) .kind ≡ k) × (lineAt (l ∷ ls) (whereIs k q (l ∷ ls)) .q ≡ q)
     here e = let (a, b) = and-parts (eqb (l .kind) k) (eqb (l .q) q) e in rw (where-here k q l ls e) (eqb-true (l .kind) k a, eqb-true (l .q) q b)
+
     next : test k q l ≡ false → (lineAt ls (whereIs k q ls) .kind ≡ k) × (lineAt ls (whereIs k q ls) .q ≡ q) → (lineAt (l ∷ ls) (whereIs k q (l ∷ ls)) .kind ≡ k) × (lineAt (l ∷ ls) (whereIs k q (l ∷ ls)) .q ≡ q)
     next e rest = rw (where-next k q l ls e) rest
 
@@ -96,8 +97,8 @@ module _ (sc : Script) (ok : checked sc ≡ accepted) where
 
   begin-first : (i : ℕ) → i < length ls → lineAt ls i .kind ≡ 0 → whereIs 0 (lineAt ls i .q) ls ≡ i
   begin-first i h k =
-    let r : eqb (whereIs 0 (lineAt ls i .q) ls) i ≡ true = rw k at (found i h .once) in
-    eqb-true _ i r
+      let r : eqb (whereIs 0 (lineAt ls i .q) ls) i ≡ true = rw k at (found i h .once) in
+      eqb-true _ i r
 
   -- a begin and its end
   pub record Method (q : ℕ) : Type 0 where
@@ -119,7 +120,7 @@ module _ (sc : Script) (ok : checked sc ≡ accepted) where
 
     closer-q : p .closer .kind ≡ 1 → p .opener .q ≡ p .closer .q
     closer-q k =
-      closing-q (p .opener) (below ls p) (p .closer) (ap₂ nests (sym (stack-close ls p)) (sym (at-close ls p)) ∙ found (closeAt ls p) close-in .nested) k
+        closing-q (p .opener) (below ls p) (p .closer) (ap₂ nests (sym (stack-close ls p)) (sym (at-close ls p)) ∙ found (closeAt ls p) close-in .nested) k
 
     first-is : p .opener .kind ≡ 0 → whereIs 0 (p .opener .q) ls ≡ openAt ls p
     first-is k = ap (λ l. whereIs 0 (l .q) ls) (sym (at-open ls p)) ∙ begin-first (openAt ls p) open-in (ap (λ l. l .kind) (at-open ls p) ∙ k)
@@ -136,19 +137,19 @@ module _ (sc : Script) (ok : checked sc ≡ accepted) where
 
   last-is : (p : Paired ls) → p .opener .kind ≡ 0 → whereIs 1 (p .opener .q) ls ≡ closeAt ls p
   last-is p k =
-    let c : p .closer .kind ≡ 1 = p .kinds ∙ ap turnedKind k in
-    let q = p .opener .q in
-    let m = whereIs 1 q ls in
-    let at : lineAt ls (closeAt ls p) ≡ p .closer = at-close ls p in
-    let low : m ≤ closeAt ls p = where-hit 1 q ls (closeAt ls p) (close-in p) (ap (λ l. l .kind) at ∙ c) (ap (λ l. l .q) at ∙ sym (closer-q p c)) in
-    let n = close-in p in
-    let inside : m < length ls = omega arith in
-    let (mk, mq) = where-at 1 q ls inside in
-    let (p′, e, k′) = closed-by m inside mk in
-    let c′ : p′ .closer .kind ≡ 1 = p′ .kinds ∙ ap turnedKind k′ in
-    let q′ : p′ .opener .q ≡ q = closer-q p′ c′ ∙ ap (λ l. l .q) (sym (at-close ls p′) ∙ ap (lineAt ls) (sym e)) ∙ mq in
-    let same : openAt ls p′ ≡ openAt ls p = sym (first-is p′ k′) ∙ ap (λ x. whereIs 0 x ls) q′ ∙ first-is p k in
-    e ∙ sym (partner-open ls p′) ∙ ap (partner ls) same ∙ partner-open ls p
+      let c : p .closer .kind ≡ 1 = p .kinds ∙ ap turnedKind k in
+      let q = p .opener .q in
+      let m = whereIs 1 q ls in
+      let at : lineAt ls (closeAt ls p) ≡ p .closer = at-close ls p in
+      let low : m ≤ closeAt ls p = where-hit 1 q ls (closeAt ls p) (close-in p) (ap (λ l. l .kind) at ∙ c) (ap (λ l. l .q) at ∙ sym (closer-q p c)) in
+      let n = close-in p in
+      let inside : m < length ls = omega arith in
+      let (mk, mq) = where-at 1 q ls inside in
+      let (p′, e, k′) = closed-by m inside mk in
+      let c′ : p′ .closer .kind ≡ 1 = p′ .kinds ∙ ap turnedKind k′ in
+      let q′ : p′ .opener .q ≡ q = closer-q p′ c′ ∙ ap (λ l. l .q) (sym (at-close ls p′) ∙ ap (lineAt ls) (sym e)) ∙ mq in
+      let same : openAt ls p′ ≡ openAt ls p = sym (first-is p′ k′) ∙ ap (λ x. whereIs 0 x ls) q′ ∙ first-is p k in
+      e ∙ sym (partner-open ls p′) ∙ ap (partner ls) same ∙ partner-open ls p
 
   free-is : (p : Paired ls) → p .opener .kind ≡ 0 → below ls p ≡ []
   free-is p k = sym (stack-open ls p) ∙ at-begin (stackAt ls (openAt ls p)) (lineAt ls (openAt ls p)) (found (openAt ls p) (open-in p) .nested) (ap (λ l. l .kind) (at-open ls p) ∙ k)
@@ -162,8 +163,8 @@ module _ (sc : Script) (ok : checked sc ≡ accepted) where
 
   pub of-pair : (p : Paired ls) → p .opener .kind ≡ 0 → Method (p .opener .q)
   of-pair p k =
-    let c : p .closer .kind ≡ 1 = p .kinds ∙ ap turnedKind k in
-    record {
+      let c : p .closer .kind ≡ 1 = p .kinds ∙ ap turnedKind k in
+      record {
         pair = p;
         begins = k;
         ends = c;
@@ -171,14 +172,14 @@ module _ (sc : Script) (ok : checked sc ≡ accepted) where
         closing = sym (closer-q p c);
         free = free-is p k;
         first = first-is p k;
-        last = last-is p k
+        last = last-is p k;
       }
 
   pub method-of : (q : ℕ) → hasMethod ls q ≡ true → Method q
   method-of q h =
-    let inside = ltb-true (whereIs 0 q ls) (length ls) h in
-    let (k, is) = where-at 0 q ls inside in
-    by inside k is (pairs block (whereIs 0 q ls) inside (rw k refl))
+      let inside = ltb-true (whereIs 0 q ls) (length ls) h in
+      let (k, is) = where-at 0 q ls inside in
+      by inside k is (pairs block (whereIs 0 q ls) inside (rw k refl))
     where
       by : whereIs 0 q ls < length ls → lineAt ls (whereIs 0 q ls) .kind ≡ 0 → lineAt ls (whereIs 0 q ls) .q ≡ q → Has ls (whereIs 0 q ls) → Method q
       by inside k is (p, inl e) =
@@ -194,15 +195,15 @@ module _ (sc : Script) (ok : checked sc ≡ accepted) where
 
   pub end-is : (i : ℕ) → i < length ls → lineAt ls i .kind ≡ 1 → whereIs 1 (lineAt ls i .q) ls ≡ i
   end-is i h k =
-    let (p, e, o) = closed-by i h k in
-    let q : lineAt ls i .q ≡ p .opener .q = ap (λ l. l .q) (ap (lineAt ls) e ∙ at-close ls p) ∙ sym (closer-q p (p .kinds ∙ ap turnedKind o)) in
-    ap (λ x. whereIs 1 x ls) q ∙ last-is p o ∙ sym e
+      let (p, e, o) = closed-by i h k in
+      let q : lineAt ls i .q ≡ p .opener .q = ap (λ l. l .q) (ap (lineAt ls) e ∙ at-close ls p) ∙ sym (closer-q p (p .kinds ∙ ap turnedKind o)) in
+      ap (λ x. whereIs 1 x ls) q ∙ last-is p o ∙ sym e
 
   pub end-method : (i : ℕ) → i < length ls → lineAt ls i .kind ≡ 1 → hasMethod ls (lineAt ls i .q) ≡ true
   end-method i h k =
-    let (p, e, o) = closed-by i h k in
-    let q : lineAt ls i .q ≡ p .opener .q = ap (λ l. l .q) (ap (lineAt ls) e ∙ at-close ls p) ∙ sym (closer-q p (p .kinds ∙ ap turnedKind o)) in
-    lt-ltb (whereIs 0 (lineAt ls i .q) ls) (length ls) (let w = ap (λ x. whereIs 0 x ls) q ∙ first-is p o in let n = open-in p in omega arith)
+      let (p, e, o) = closed-by i h k in
+      let q : lineAt ls i .q ≡ p .opener .q = ap (λ l. l .q) (ap (lineAt ls) e ∙ at-close ls p) ∙ sym (closer-q p (p .kinds ∙ ap turnedKind o)) in
+      lt-ltb (whereIs 0 (lineAt ls i .q) ls) (length ls) (let w = ap (λ x. whereIs 0 x ls) q ∙ first-is p o in let n = open-in p in omega arith)
 
   -- where a method is entered
   pub entered-in : (q : ℕ) → Method q → (fw : Bool) → (entry sc fw q ≤ length ls) × In q (stackAt ls (entry sc fw q)) × (depth (stackAt ls (entry sc fw q)) ≡ 0)
@@ -210,13 +211,17 @@ module _ (sc : Script) (ok : checked sc ≡ accepted) where
     where
       p : Paired ls
       p = m .pair
+
       o : Line
       o = m .pair .opener
+
       at : (fw : Bool) → stackAt ls (entry sc fw q) ≡ o ∷ []
       at true = ap (λ k. stackAt ls (suc k)) (m .first) ∙ stack-opened ls p ∙ ap {B = List Line} (λ x. o ∷ x) (m .free)
       at false = ap (stackAt ls) (m .last) ∙ stack-close ls p ∙ ap {B = List Line} (λ x. o ∷ x) (m .free)
+
       low : (fw : Bool) → entry sc fw q ≤ length ls
       low true = omega (arith, m .first, paired-length ls p)
       low false = omega (arith, m .last, paired-length ls p)
+
       by : (fw : Bool) → (entry sc fw q ≤ length ls) × In q (stackAt ls (entry sc fw q)) × (depth (stackAt ls (entry sc fw q)) ≡ 0)
       by fw = (low fw, subst (In q) (sym (at fw)) (outer o (m .begins) (m .opening)), ap depth (at fw) ∙ rw (m .begins))

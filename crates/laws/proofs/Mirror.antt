@@ -28,12 +28,13 @@ turnedScript sc = record { lines = turned (sc .lines); terms = sc .terms }
 -- positions counted from the other end
 abbrev pub mirrored : ℕ → State → State
 mirrored n s = record {
-    position = n - s .position;
-    forward = not (s .forward);
-    present = s .present;
-    locals = s .locals;
-    frames = map (λ f. record { line = n - 1 - f .line; former = f .former; count = f .count }) (s .frames);
-    book = s .book }
+  position = n - s .position;
+  forward = not (s .forward);
+  present = s .present;
+  locals = s .locals;
+  frames = map (λ f. record { line = n - 1 - f .line; former = f .former; count = f .count }) (s .frames);
+  book = s .book;
+}
 
 abbrev pub mapOk : {A B : Type 0} → (A → B) → Result A Refusal → Result B Refusal
 mapOk f (Ok a) = Ok (f a)
@@ -61,9 +62,9 @@ module _ (sc : Script) (l : ℕ) (inside : l < length (sc .lines)) where
 
   pub line-turned : lineAt (turned (sc .lines)) there ≡ turnedLine (lineAt (sc .lines) l)
   line-turned =
-    let e : n - 1 - there ≡ l = omega arith in
-    getD-map turnedLine (reverse (sc .lines)) there noLine noLine (omega (arith, length-reverse (sc .lines)))
-    ∙ ap turnedLine (getD-reverse (sc .lines) there noLine (omega arith) ∙ ap (λ k. getD (sc .lines) k noLine) e)
+      let e : n - 1 - there ≡ l = omega arith in
+      getD-map turnedLine (reverse (sc .lines)) there noLine noLine (omega (arith, length-reverse (sc .lines)))
+      ∙ ap turnedLine (getD-reverse (sc .lines) there noLine (omega arith) ∙ ap (λ k. getD (sc .lines) k noLine) e)
 
   module _ (s : State) where
     pub find-mirrored : find (mirrored n s) ≡ find s
@@ -84,13 +85,13 @@ module _ (sc : Script) (l : ℕ) (inside : l < length (sc .lines)) where
 
   pub changed-mirrored : (s : State) (f : ℤ → ℤ → ℤ) → changed (turnedScript sc) there (mirrored n s) f ≡ mapOk (mirrored n) (changed sc l s f)
   changed-mirrored s f =
-    ap₂ (λ r q. r >>= λ e. q >>= λ x. go there (write x (f (read s x) e) (mirrored n s))) (value-mirrored s) (ap₂ (λ g ln. g (ln .x)) (find-mirrored s) line-turned)
-    ∙ bind-map (mirrored n) (value sc s l) _ _ (λ e. bind-map (mirrored n) (find s (lineAt (sc .lines) l .x)) _ _ (λ x. go-mirrored (write x (f (read s x) e) s)))
+      ap₂ (λ r q. r >>= λ e. q >>= λ x. go there (write x (f (read s x) e) (mirrored n s))) (value-mirrored s) (ap₂ (λ g ln. g (ln .x)) (find-mirrored s) line-turned)
+      ∙ bind-map (mirrored n) (value sc s l) _ _ (λ e. bind-map (mirrored n) (find s (lineAt (sc .lines) l .x)) _ _ (λ x. go-mirrored (write x (f (read s x) e) s)))
 
   pub asserted-mirrored : (s : State) → asserted (turnedScript sc) there (mirrored n s) ≡ mapOk (mirrored n) (asserted sc l s)
   asserted-mirrored s =
-    ap (λ r. r >>= λ e. need (holds e) TestFailed >>= λ _. go there (mirrored n s)) (value-mirrored s)
-    ∙ bind-map (mirrored n) (value sc s l) _ _ (λ e. bind-map (mirrored n) (need (holds e) TestFailed) _ _ (λ _. go-mirrored s))
+      ap (λ r. r >>= λ e. need (holds e) TestFailed >>= λ _. go there (mirrored n s)) (value-mirrored s)
+      ∙ bind-map (mirrored n) (value sc s l) _ _ (λ e. bind-map (mirrored n) (need (holds e) TestFailed) _ _ (λ _. go-mirrored s))
 
 -- if and until, with the other line of the pair mirrored too
 pub branched-mirrored : (sc : Script) → Block (sc .lines) → (l : ℕ) → l < length (sc .lines) → bracket (lineAt (sc .lines) l .kind) ≡ true → partner (sc .lines) l < length (sc .lines)
@@ -100,9 +101,9 @@ branched-mirrored sc block l inside b inside′ s =
     let m = partner (sc .lines) l in
     let e : partner (turned (sc .lines)) (n - 1 - l) ≡ n - 1 - m = partner-turned (sc .lines) block l inside b in
     ap (λ r. r >>= λ v. cond (holds v) (go (n - 1 - l) (mirrored n s))
-        (value (turnedScript sc) (mirrored n s) (partner (turned (sc .lines)) (n - 1 - l)) >>= λ o. need (not (holds o)) TestFailed >>= λ _. go (partner (turned (sc .lines)) (n - 1 - l)) (mirrored n s)))
-      (value-mirrored sc l inside s)
+    (value (turnedScript sc) (mirrored n s) (partner (turned (sc .lines)) (n - 1 - l)) >>= λ o. need (not (holds o)) TestFailed >>= λ _. go (partner (turned (sc .lines)) (n - 1 - l)) (mirrored n s)))
+    (value-mirrored sc l inside s)
     ∙ bind-map (mirrored n) (value sc s l) _ _ (λ v.
-        cond-map (mirrored n) (holds v) _ _ _ _ (go-mirrored sc l inside s)
-          (rw (e, value-mirrored sc m inside′ s)
-            (bind-map (mirrored n) (value sc s m) _ _ (λ o. bind-map (mirrored n) (need (not (holds o)) TestFailed) _ _ (λ _. go-mirrored sc m inside′ s)))))
+    cond-map (mirrored n) (holds v) _ _ _ _ (go-mirrored sc l inside s)
+    (rw (e, value-mirrored sc m inside′ s)
+    (bind-map (mirrored n) (value sc s m) _ _ (λ o. bind-map (mirrored n) (need (not (holds o)) TestFailed) _ _ (λ _. go-mirrored sc m inside′ s)))))

@@ -95,45 +95,45 @@ module _ (sc : Script) (l : ℕ) (inside-l : l < length (sc .lines)) where
 
     opened-mirrored : opened sc′ there (M s) ≡ mapOk M (opened sc l s)
     opened-mirrored =
-      ap (λ r. need (ltb (length (s .locals)) 256) TooDeep >>= λ _. r >>= λ e. steps.go there (withLocals (s .locals ++ (e ∷ [])) (M s))) (value-mirrored sc l inside-l s)
-      ∙ bind-map M (need (ltb (length (s .locals)) 256) TooDeep) _ _ (λ _. bind-map M (value sc s l) _ _ (λ e. gone (withLocals (s .locals ++ (e ∷ [])) s)))
+        ap (λ r. need (ltb (length (s .locals)) 256) TooDeep >>= λ _. r >>= λ e. steps.go there (withLocals (s .locals ++ (e ∷ [])) (M s))) (value-mirrored sc l inside-l s)
+        ∙ bind-map M (need (ltb (length (s .locals)) 256) TooDeep) _ _ (λ _. bind-map M (value sc s l) _ _ (λ e. gone (withLocals (s .locals ++ (e ∷ [])) s)))
 
     closed-mirrored : closed sc′ there (M s) ≡ mapOk M (closed sc l s)
     closed-mirrored =
-      let m = length (s .locals) - 1 in
-      ap (λ r. r >>= λ e. need (eqZ (getD (s .locals) m (pos 0)) e) TestFailed >>= λ _. steps.go there (withLocals (take m (s .locals)) (M s))) (value-mirrored sc l inside-l s)
-      ∙ bind-map M (value sc s l) _ _ (λ e. bind-map M (need (eqZ (getD (s .locals) m (pos 0)) e) TestFailed) _ _ (λ _. gone (withLocals (take m (s .locals)) s)))
+        let m = length (s .locals) - 1 in
+        ap (λ r. r >>= λ e. need (eqZ (getD (s .locals) m (pos 0)) e) TestFailed >>= λ _. steps.go there (withLocals (take m (s .locals)) (M s))) (value-mirrored sc l inside-l s)
+        ∙ bind-map M (value sc s l) _ _ (λ e. bind-map M (need (eqZ (getD (s .locals) m (pos 0)) e) TestFailed) _ _ (λ _. gone (withLocals (take m (s .locals)) s)))
 
     allocated-mirrored : allocated sc′ there (M s) ≡ mapOk M (allocated sc l s)
     allocated-mirrored =
-      let h = getD (s .book) 0 (pos 0) in
-      let k = named (s .book) h in
-      let b = set (set (s .book) 0 (getD (s .book) (recordAt k + 7) (pos 0))) (recordAt k + 7) (pos 0) in
-      ap (λ r. r >>= λ x. need (eqZ (read s x) (pos 0)) NotClear >>= λ _. need (not (eqZ h (pos 0))) NoFree >>= λ _. need (ltb 0 k && (not (inside x k) && clear (s .book) 7 k)) FreeUnfit >>= λ _. steps.go there (write x (pos k) (withBook b (M s)))) x-mirrored
-      ∙ bind-map M (find s (ln .x)) _ _ (λ x. bind-map M (need (eqZ (read s x) (pos 0)) NotClear) _ _ (λ _. bind-map M (need (not (eqZ h (pos 0))) NoFree) _ _ (λ _.
-          bind-map M (need (ltb 0 k && (not (inside x k) && clear (s .book) 7 k)) FreeUnfit) _ _ (λ _. gone (write x (pos k) (withBook b s))))))
+        let h = getD (s .book) 0 (pos 0) in
+        let k = named (s .book) h in
+        let b = set (set (s .book) 0 (getD (s .book) (recordAt k + 7) (pos 0))) (recordAt k + 7) (pos 0) in
+        ap (λ r. r >>= λ x. need (eqZ (read s x) (pos 0)) NotClear >>= λ _. need (not (eqZ h (pos 0))) NoFree >>= λ _. need (ltb 0 k && (not (inside x k) && clear (s .book) 7 k)) FreeUnfit >>= λ _. steps.go there (write x (pos k) (withBook b (M s)))) x-mirrored
+        ∙ bind-map M (find s (ln .x)) _ _ (λ x. bind-map M (need (eqZ (read s x) (pos 0)) NotClear) _ _ (λ _. bind-map M (need (not (eqZ h (pos 0))) NoFree) _ _ (λ _.
+        bind-map M (need (ltb 0 k && (not (inside x k) && clear (s .book) 7 k)) FreeUnfit) _ _ (λ _. gone (write x (pos k) (withBook b s))))))
 
     freed-mirrored : freed sc′ there (M s) ≡ mapOk M (freed sc l s)
     freed-mirrored =
-      ap (λ r. r >>= λ x. need (ltb 0 (named (s .book) (read s x))) NoRecord >>= λ _. need (clear (s .book) 8 (named (s .book) (read s x))) NotClear >>= λ _.
-          steps.go there (write x (pos 0) (withBook (set (set (s .book) (recordAt (named (s .book) (read s x)) + 7) (getD (s .book) 0 (pos 0))) 0 (pos (named (s .book) (read s x)))) (M s)))) x-mirrored
-      ∙ bind-map M (find s (ln .x)) _ _ (λ x. bind-map M (need (ltb 0 (named (s .book) (read s x))) NoRecord) _ _ (λ _. bind-map M (need (clear (s .book) 8 (named (s .book) (read s x))) NotClear) _ _ (λ _.
-          gone (write x (pos 0) (withBook (set (set (s .book) (recordAt (named (s .book) (read s x)) + 7) (getD (s .book) 0 (pos 0))) 0 (pos (named (s .book) (read s x)))) s)))))
+        ap (λ r. r >>= λ x. need (ltb 0 (named (s .book) (read s x))) NoRecord >>= λ _. need (clear (s .book) 8 (named (s .book) (read s x))) NotClear >>= λ _.
+        steps.go there (write x (pos 0) (withBook (set (set (s .book) (recordAt (named (s .book) (read s x)) + 7) (getD (s .book) 0 (pos 0))) 0 (pos (named (s .book) (read s x)))) (M s)))) x-mirrored
+        ∙ bind-map M (find s (ln .x)) _ _ (λ x. bind-map M (need (ltb 0 (named (s .book) (read s x))) NoRecord) _ _ (λ _. bind-map M (need (clear (s .book) 8 (named (s .book) (read s x))) NotClear) _ _ (λ _.
+        gone (write x (pos 0) (withBook (set (set (s .book) (recordAt (named (s .book) (read s x)) + 7) (getD (s .book) 0 (pos 0))) 0 (pos (named (s .book) (read s x)))) s)))))
 
     copied-mirrored : copied sc′ there (M s) ≡ mapOk M (copied sc l s)
     copied-mirrored =
-      ap₂ (λ r q. r >>= λ x. q >>= λ y. need (eqZ (read s y) (pos 0)) NotClear >>= λ _. steps.go there (write y (read s x) (M s))) x-mirrored y-mirrored
-      ∙ bind-map M (find s (ln .x)) _ _ (λ x. bind-map M (find s (ln .y)) _ _ (λ y. bind-map M (need (eqZ (read s y) (pos 0)) NotClear) _ _ (λ _. gone (write y (read s x) s))))
+        ap₂ (λ r q. r >>= λ x. q >>= λ y. need (eqZ (read s y) (pos 0)) NotClear >>= λ _. steps.go there (write y (read s x) (M s))) x-mirrored y-mirrored
+        ∙ bind-map M (find s (ln .x)) _ _ (λ x. bind-map M (find s (ln .y)) _ _ (λ y. bind-map M (need (eqZ (read s y) (pos 0)) NotClear) _ _ (λ _. gone (write y (read s x) s))))
 
     uncopied-mirrored : uncopied sc′ there (M s) ≡ mapOk M (uncopied sc l s)
     uncopied-mirrored =
-      ap₂ (λ r q. r >>= λ x. q >>= λ y. need (eqZ (read s y) (read s x)) NotClear >>= λ _. steps.go there (write y (pos 0) (M s))) x-mirrored y-mirrored
-      ∙ bind-map M (find s (ln .x)) _ _ (λ x. bind-map M (find s (ln .y)) _ _ (λ y. bind-map M (need (eqZ (read s y) (read s x)) NotClear) _ _ (λ _. gone (write y (pos 0) s))))
+        ap₂ (λ r q. r >>= λ x. q >>= λ y. need (eqZ (read s y) (read s x)) NotClear >>= λ _. steps.go there (write y (pos 0) (M s))) x-mirrored y-mirrored
+        ∙ bind-map M (find s (ln .x)) _ _ (λ x. bind-map M (find s (ln .y)) _ _ (λ y. bind-map M (need (eqZ (read s y) (read s x)) NotClear) _ _ (λ _. gone (write y (pos 0) s))))
 
     swapped-mirrored : swapped sc′ there (M s) ≡ mapOk M (swapped sc l s)
     swapped-mirrored =
-      ap₂ (λ r q. r >>= λ x. q >>= λ y. steps.go there (write y (read s x) (write x (read s y) (M s)))) x-mirrored y-mirrored
-      ∙ bind-map M (find s (ln .x)) _ _ (λ x. bind-map M (find s (ln .y)) _ _ (λ y. gone (write y (read s x) (write x (read s y) s))))
+        ap₂ (λ r q. r >>= λ x. q >>= λ y. steps.go there (write y (read s x) (write x (read s y) (M s)))) x-mirrored y-mirrored
+        ∙ bind-map M (find s (ln .x)) _ _ (λ x. bind-map M (find s (ln .y)) _ _ (λ y. gone (write y (read s x) (write x (read s y) s))))
 
 -- ---- methods
 
@@ -171,12 +171,12 @@ module _ (sc : Script) (ok : checked sc ≡ accepted) where
 
     pub begin-turned : whereIs 0 q (turned (sc .lines)) ≡ length (sc .lines) - 1 - closeAt (sc .lines) (m .pair)
     begin-turned =
-      where-turned sc 0 q (closeAt (sc .lines) (m .pair)) close-low (ap (λ x. x .kind) (at-close (sc .lines) (m .pair)) ∙ m .ends) (ap (λ x. x .q) (at-close (sc .lines) (m .pair)) ∙ m .closing)
+        where-turned sc 0 q (closeAt (sc .lines) (m .pair)) close-low (ap (λ x. x .kind) (at-close (sc .lines) (m .pair)) ∙ m .ends) (ap (λ x. x .q) (at-close (sc .lines) (m .pair)) ∙ m .closing)
         (λ j h k e. sym (end-is sc ok j h k) ∙ ap (λ x. whereIs 1 x (sc .lines)) e ∙ m .last)
 
     end-turned : whereIs 1 q (turned (sc .lines)) ≡ length (sc .lines) - 1 - openAt (sc .lines) (m .pair)
     end-turned =
-      where-turned sc 1 q (openAt (sc .lines) (m .pair)) open-low (ap (λ x. x .kind) (at-open (sc .lines) (m .pair)) ∙ m .begins) (ap (λ x. x .q) (at-open (sc .lines) (m .pair)) ∙ m .opening)
+        where-turned sc 1 q (openAt (sc .lines) (m .pair)) open-low (ap (λ x. x .kind) (at-open (sc .lines) (m .pair)) ∙ m .begins) (ap (λ x. x .q) (at-open (sc .lines) (m .pair)) ∙ m .opening)
         (λ j h k e. sym (begin-is sc ok j h k) ∙ ap (λ x. whereIs 0 x (sc .lines)) e ∙ m .first)
 
     entry-of : (fw : Bool) → entry (turnedScript sc) (not fw) q ≡ length (sc .lines) - entry sc fw q
@@ -216,63 +216,65 @@ holding-mirrored n s y y′ k e f = ap₂ (λ z r. cond (isNone z) (Ok tt) (r >>
 
 module _ (sc : Script) (ok : checked sc ≡ accepted) (l : ℕ) (inside-l : l < length (sc .lines)) (s : State) where
   entered-mirrored : (fw : Bool) → hasMethod (sc .lines) (lineAt (sc .lines) l .q) ≡ true
-    → entered (turnedScript sc) (length (sc .lines) - 1 - l) (mirrored (length (sc .lines)) s) (not fw) ≡ mapOk (mirrored (length (sc .lines))) (entered sc l s fw)
+      → entered (turnedScript sc) (length (sc .lines) - 1 - l) (mirrored (length (sc .lines)) s) (not fw) ≡ mapOk (mirrored (length (sc .lines))) (entered sc l s fw)
   entered-mirrored fw h =
-    let n = length (sc .lines) in
-    let lt = line-turned sc l inside-l in
-    let size : length (map (frameOf n) (s .frames)) ≡ length (s .frames) = length-map (s .frames) (frameOf n) in
-    let at : entry (turnedScript sc) (not fw) (lineAt (turned (sc .lines)) (n - 1 - l) .q) ≡ n - entry sc fw (lineAt (sc .lines) l .q) =
-        ap (λ x. entry (turnedScript sc) (not fw) (x .q)) lt ∙ entry-mirrored sc ok (lineAt (sc .lines) l .q) h fw in
-    let same = callee-mirrored n s (lineAt (sc .lines) l .y) (lineAt (turned (sc .lines)) (n - 1 - l) .y) (ap (λ x. x .y) lt) (y-mirrored sc l inside-l s) in
-    ap₂ (λ m r. need (ltb m 64) TooDeep >>= λ _. r >>= λ k. Ok (record {
+      let n = length (sc .lines) in
+      let lt = line-turned sc l inside-l in
+      let size : length (map (frameOf n) (s .frames)) ≡ length (s .frames) = length-map (s .frames) (frameOf n) in
+      let at : entry (turnedScript sc) (not fw) (lineAt (turned (sc .lines)) (n - 1 - l) .q) ≡ n - entry sc fw (lineAt (sc .lines) l .q) =
+      ap (λ x. entry (turnedScript sc) (not fw) (x .q)) lt ∙ entry-mirrored sc ok (lineAt (sc .lines) l .q) h fw in
+      let same = callee-mirrored n s (lineAt (sc .lines) l .y) (lineAt (turned (sc .lines)) (n - 1 - l) .y) (ap (λ x. x .y) lt) (y-mirrored sc l inside-l s) in
+      ap₂ (λ m r. need (ltb m 64) TooDeep >>= λ _. r >>= λ k. Ok (record {
         position = entry (turnedScript sc) (not fw) (lineAt (turned (sc .lines)) (n - 1 - l) .q);
         forward = not fw;
         present = k;
         locals = s .locals;
         frames = record { line = n - 1 - l; former = s .present; count = length (s .locals) } ∷ map (frameOf n) (s .frames);
-        book = s .book })) size same
-    ∙ bind-map (mirrored n) (need (ltb (length (s .frames)) 64) TooDeep) _ _ (λ _. bind-map (mirrored n) (callee s (lineAt (sc .lines) l .y)) _ _ (λ k.
-        ap {B = Result State Refusal} (λ p. Ok (record {
-            position = p;
-            forward = not fw;
-            present = k;
-            locals = s .locals;
-            frames = record { line = n - 1 - l; former = s .present; count = length (s .locals) } ∷ map (frameOf n) (s .frames);
-            book = s .book })) at))
+        book = s .book;
+      })) size same
+      ∙ bind-map (mirrored n) (need (ltb (length (s .frames)) 64) TooDeep) _ _ (λ _. bind-map (mirrored n) (callee s (lineAt (sc .lines) l .y)) _ _ (λ k.
+      ap {B = Result State Refusal} (λ p. Ok (record {
+        position = p;
+        forward = not fw;
+        present = k;
+        locals = s .locals;
+        frames = record { line = n - 1 - l; former = s .present; count = length (s .locals) } ∷ map (frameOf n) (s .frames);
+        book = s .book;
+      })) at))
 
   across-mirrored : (k : ℕ) (fw : Bool) → (k ≡ 16) ⊎ (k ≡ 17) → across (turnedKind k) (not fw) ≡ not (across k fw)
   across-mirrored k fw (inl e) = rw e refl
   across-mirrored k fw (inr e) = rw e refl
 
   left-mirrored : (f : Frame) (fs : List Frame) → f .line < length (sc .lines) → (lineAt (sc .lines) (f .line) .kind ≡ 16) ⊎ (lineAt (sc .lines) (f .line) .kind ≡ 17)
-    → (let n = length (sc .lines) in left (turnedScript sc) (n - 1 - l) (mirrored n s) (frameOf n f) (map (frameOf n) fs) ≡ mapOk (mirrored n) (left sc l s f fs))
+      → (let n = length (sc .lines) in left (turnedScript sc) (n - 1 - l) (mirrored n s) (frameOf n f) (map (frameOf n) fs) ≡ mapOk (mirrored n) (left sc l s f fs))
   left-mirrored f fs low kinds =
-    let n = length (sc .lines) in
-    let lt = line-turned sc (f .line) low in
-    let k = lineAt (sc .lines) (f .line) .kind in
-    let turns : across (lineAt (turned (sc .lines)) (n - 1 - f .line) .kind) (not (s .forward)) ≡ not (across k (s .forward)) =
-        ap (λ x. across (x .kind) (not (s .forward))) lt ∙ across-mirrored k (s .forward) kinds in
-    let c = caller sc f fs s in
-    let same : caller (turnedScript sc) (frameOf n f) (map (frameOf n) fs) (mirrored n s) ≡ mirrored n c =
-        ap (λ b. record { position = past b (n - 1 - f .line); forward = b; present = f .former; locals = s .locals; frames = map (frameOf n) fs; book = s .book }) turns
-        ∙ ap (λ p. record { position = p; forward = not (across k (s .forward)); present = f .former; locals = s .locals; frames = map (frameOf n) fs; book = s .book }) (past-mirrored (across k (s .forward)) n (f .line) low) in
-    ap (λ x. holding x (lineAt (turned (sc .lines)) (n - 1 - f .line) .y) (s .present) >>= λ _. Ok x) same
-    ∙ ap (λ r. r >>= λ _. Ok (mirrored n c)) (holding-mirrored n c (lineAt (sc .lines) (f .line) .y) (lineAt (turned (sc .lines)) (n - 1 - f .line) .y) (s .present) (ap (λ x. x .y) lt) (y-mirrored sc (f .line) low c))
-    ∙ bind-map (mirrored n) (holding c (lineAt (sc .lines) (f .line) .y) (s .present)) _ _ (λ _. refl)
+      let n = length (sc .lines) in
+      let lt = line-turned sc (f .line) low in
+      let k = lineAt (sc .lines) (f .line) .kind in
+      let turns : across (lineAt (turned (sc .lines)) (n - 1 - f .line) .kind) (not (s .forward)) ≡ not (across k (s .forward)) =
+      ap (λ x. across (x .kind) (not (s .forward))) lt ∙ across-mirrored k (s .forward) kinds in
+      let c = caller sc f fs s in
+      let same : caller (turnedScript sc) (frameOf n f) (map (frameOf n) fs) (mirrored n s) ≡ mirrored n c =
+      ap (λ b. record { position = past b (n - 1 - f .line); forward = b; present = f .former; locals = s .locals; frames = map (frameOf n) fs; book = s .book }) turns
+      ∙ ap (λ p. record { position = p; forward = not (across k (s .forward)); present = f .former; locals = s .locals; frames = map (frameOf n) fs; book = s .book }) (past-mirrored (across k (s .forward)) n (f .line) low) in
+      ap (λ x. holding x (lineAt (turned (sc .lines)) (n - 1 - f .line) .y) (s .present) >>= λ _. Ok x) same
+      ∙ ap (λ r. r >>= λ _. Ok (mirrored n c)) (holding-mirrored n c (lineAt (sc .lines) (f .line) .y) (lineAt (turned (sc .lines)) (n - 1 - f .line) .y) (s .present) (ap (λ x. x .y) lt) (y-mirrored sc (f .line) low c))
+      ∙ bind-map (mirrored n) (holding c (lineAt (sc .lines) (f .line) .y) (s .present)) _ _ (λ _. refl)
 
 -- ---- kind by kind
 
 module _ (sc : Script) (ok : checked sc ≡ accepted) (q : ℕ) (d : Bool) where
   abbrev Mirrors : ℕ → Type 0
   Mirrors k = (l : ℕ) (s : State) → l < length (sc .lines) → met (s .forward) (lineAt (sc .lines) l .kind) ≡ k → Fit sc q d s
-    → (let n = length (sc .lines) in rule k (turnedScript sc) (n - 1 - l) (mirrored n s) ≡ mapOk (mirrored n) (rule k sc l s))
+      → (let n = length (sc .lines) in rule k (turnedScript sc) (n - 1 - l) (mirrored n s) ≡ mapOk (mirrored n) (rule k sc l s))
 
   returned-mirrored : (l : ℕ) (s : State) → l < length (sc .lines) → Fit sc q d s
-    → (let n = length (sc .lines) in returned (turnedScript sc) (n - 1 - l) (mirrored n s) (map (frameOf n) (s .frames)) ≡ mapOk (mirrored n) (returned sc l s (s .frames)))
+      → (let n = length (sc .lines) in returned (turnedScript sc) (n - 1 - l) (mirrored n s) (map (frameOf n) (s .frames)) ≡ mapOk (mirrored n) (returned sc l s (s .frames)))
   returned-mirrored l s inside-l F = by (s .frames) (F .chain)
     where
       by : (gs : List Frame) → Chain sc q (records (s .book)) gs (s .present)
-        → (let n = length (sc .lines) in returned (turnedScript sc) (n - 1 - l) (mirrored n s) (map (frameOf n) gs) ≡ mapOk (mirrored n) (returned sc l s gs))
+          → (let n = length (sc .lines) in returned (turnedScript sc) (n - 1 - l) (mirrored n s) (map (frameOf n) gs) ≡ mapOk (mirrored n) (returned sc l s gs))
       by [] c = refl
       by (f ∷ fs) c = left-mirrored sc ok l inside-l s f fs (c .0 .inside) (c .0 .calls)
 
@@ -342,30 +344,30 @@ module _ (sc : Script) (ok : checked sc ≡ accepted) (q : ℕ) (d : Bool) where
 
     kind-there : kindMet (turnedScript sc) (mirrored size s) ≡ kindMet sc s
     kind-there =
-      ap (λ i. met (not (s .forward)) (lineAt (turned (sc .lines)) i .kind)) turn-there
-      ∙ ap (λ x. met (not (s .forward)) (x .kind)) (line-turned sc (turnOf s) (turn-in sc ok q d s F))
-      ∙ met-mirrored (s .forward) (lineAt (sc .lines) (turnOf s) .kind)
+        ap (λ i. met (not (s .forward)) (lineAt (turned (sc .lines)) i .kind)) turn-there
+        ∙ ap (λ x. met (not (s .forward)) (x .kind)) (line-turned sc (turnOf s) (turn-in sc ok q d s F))
+        ∙ met-mirrored (s .forward) (lineAt (sc .lines) (turnOf s) .kind)
 
     step-mirrored : step (turnedScript sc) (mirrored size s) ≡ mapOk (mirrored size) (step sc s)
     unfolding step
     step-mirrored =
-      ap₂ (λ k i. rule k (turnedScript sc) i (mirrored size s)) kind-there turn-there
-      ∙ ⊎-elim
-          (λ low. each-at Mirrors 0 18 (kindMet sc s) all-mirror (omega arith) (omega arith) (turnOf s) s (turn-in sc ok q d s F) refl F)
-          (λ high.
-            let e = getD-past rules (kindMet sc s) (λ _ _ _. Err Unknown) high in
-            ap (λ r. r (turnedScript sc) (size - 1 - turnOf s) (mirrored size s)) e ∙ ap (λ r. mapOk (mirrored size) (r sc (turnOf s) s)) (sym e))
-          (cases-lt (kindMet sc s) 18)
+        ap₂ (λ k i. rule k (turnedScript sc) i (mirrored size s)) kind-there turn-there
+        ∙ ⊎-elim
+        (λ low. each-at Mirrors 0 18 (kindMet sc s) all-mirror (omega arith) (omega arith) (turnOf s) s (turn-in sc ok q d s F) refl F)
+        (λ high.
+        let e = getD-past rules (kindMet sc s) (λ _ _ _. Err Unknown) high in
+        ap (λ r. r (turnedScript sc) (size - 1 - turnOf s) (mirrored size s)) e ∙ ap (λ r. mapOk (mirrored size) (r sc (turnOf s) s)) (sym e))
+        (cases-lt (kindMet sc s) 18)
 
     finished-mirrored : finished (turnedScript sc) (mirrored size s) ≡ finished sc s
     finished-mirrored = ap₂ (λ k n. eqb k 1 && eqb n 0) kind-there (length-map (s .frames) (frameOf size))
 
     next-mirrored : next (turnedScript sc) (mirrored size s) ≡ mapNext (mirrored size) (next sc s)
     next-mirrored =
-      ap₂ (λ b r. elim b as (λ _. Next State Refusal) [ true ↦ finish | false ↦ either r go stop ]) finished-mirrored step-mirrored ∙ by (finished sc s) (step sc s)
+        ap₂ (λ b r. elim b as (λ _. Next State Refusal) [ true ↦ finish | false ↦ either r go stop ]) finished-mirrored step-mirrored ∙ by (finished sc s) (step sc s)
       where
         by : (b : Bool) (r : Result State Refusal)
-          → elim b as (λ _. Next State Refusal) [ true ↦ finish | false ↦ either (mapOk (mirrored size) r) go stop ] ≡ mapNext (mirrored size) (elim b as (λ _. Next State Refusal) [ true ↦ finish | false ↦ either r go stop ])
+            → elim b as (λ _. Next State Refusal) [ true ↦ finish | false ↦ either (mapOk (mirrored size) r) go stop ] ≡ mapNext (mirrored size) (elim b as (λ _. Next State Refusal) [ true ↦ finish | false ↦ either r go stop ])
         by true r = refl
         by false (Ok t) = refl
         by false (Err n) = refl
@@ -381,16 +383,16 @@ module _ (sc : Script) (ok : checked sc ≡ accepted) where
 
   pub maps : Maps (machine sc) (machine (turnedScript sc)) Any (Inv sc ok) other from-end (mirrored (length (sc .lines))) (λ b. b)
   maps = record {
-      has = has-mirrored sc ok;
-      isBook = λ a o. refl;
-      noBudget = refl;
-      inv-enter = λ q d a o. lawful sc ok .inv-enter q d a;
-      inv-step = lawful sc ok .inv-step;
-      enter = λ q d a o t h. enter-mirrored q d a (is-true _ h);
-      book = λ q d s i. refl;
-      line = λ q d s F. turn-there sc ok q (ahead d) s F;
-      step = λ q d s F. next-mirrored sc ok q (ahead d) s F
-    }
+    has = has-mirrored sc ok;
+    isBook = λ a o. refl;
+    noBudget = refl;
+    inv-enter = λ q d a o. lawful sc ok .inv-enter q d a;
+    inv-step = lawful sc ok .inv-step;
+    enter = λ q d a o t h. enter-mirrored q d a (is-true _ h);
+    book = λ q d s i. refl;
+    line = λ q d s F. turn-there sc ok q (ahead d) s F;
+    step = λ q d s F. next-mirrored sc ok q (ahead d) s F;
+  }
 
   pub turns : Turns (machine sc) (machine (turnedScript sc))
   turns = turns-round (machine sc) (machine (turnedScript sc)) (Inv sc ok) (lawful sc ok) from-end (mirrored (length (sc .lines))) maps
@@ -398,5 +400,5 @@ module _ (sc : Script) (ok : checked sc ≡ accepted) where
   -- the turned script's run is the run in the other direction, refusals, lines and steps included
   pub mirrors : checked (turnedScript sc) ≡ accepted → Carries (machine sc) (machine (turnedScript sc)) Any other from-end (λ b. b)
   mirrors ok′ =
-    carries (machine sc) (machine (turnedScript sc)) Any (Inv sc ok) other from-end (mirrored (length (sc .lines))) (λ b. b) maps
+      carries (machine sc) (machine (turnedScript sc)) Any (Inv sc ok) other from-end (mirrored (length (sc .lines))) (λ b. b) maps
       (restores (machine sc) (Inv sc ok) (lawful sc ok)) (restores (machine (turnedScript sc)) (Inv (turnedScript sc) ok′) (lawful (turnedScript sc) ok′))

@@ -33,4 +33,3 @@ moving sc s t e = by (finished sc s) refl
     by : (b : Bool) → finished sc s ≡ b → b ≡ false
     by true h = absurd (finished-stops sc s t h e)
     by false h = refl
-

@@ -29,11 +29,23 @@ closes-turned k h = ⊎-elim low high (cases-lt k 10) h
   where
     P : ℕ → Type 0
     P k = opens k ≡ true → (closes (turnedKind k) ≡ true) × (opens (turnedKind k) ≡ false) × (closes k ≡ false) × (turnedKind k ≡ suc k)
+
     low : k < 10 → P k
-    low l = each-at P 0 10 k
-      ( (λ _. (refl, refl, refl, refl)), ((λ e. absurd (false≢true e)), ((λ e. absurd (false≢true e)), ((λ e. absurd (false≢true e))
-      , ((λ _. (refl, refl, refl, refl)), ((λ e. absurd (false≢true e)), ((λ _. (refl, refl, refl, refl)), ((λ e. absurd (false≢true e)), ((λ _. (refl, refl, refl, refl)), ((λ e. absurd (false≢true e)), tt))))))))))
-      (omega arith) (omega arith)
+    low l = each-at P 0 10 k (
+      (λ _. (refl, refl, refl, refl)),
+      (
+        (λ e. absurd (false≢true e)),
+        (
+          (λ e. absurd (false≢true e)),
+          (
+            (λ e. absurd (false≢true e)),
+            ((λ _. (refl, refl, refl, refl)), ((λ e. absurd (false≢true e)), ((λ _. (refl, refl, refl, refl)), ((λ e. absurd (false≢true e)), ((λ _. (refl, refl, refl, refl)), ((λ e. absurd (false≢true e)), tt)))))),
+          ),
+        ),
+      ),
+    )
+        (omega arith) (omega arith)
+
     high : 10 ≤ k → P k
     high l e = absurd (no-high k l e)
 
@@ -69,9 +81,9 @@ over-block (pair o c a b opened kinds inner outer) r d =
     let op′ : opens (c .kind) ≡ false = rw kinds op in
     at-opener o ((a ++ c ∷ b) ++ r) d opened
     ∙ ap suc
-        ( ap (λ x. toCloser x (suc d)) (append-assoc a (c ∷ b) r)
-        ∙ over-block inner (c ∷ (b ++ r)) (suc d)
-        ∙ ap (λ n. length a + n) (at-closer c (b ++ r) d cl′ op′ ∙ ap suc (over-block outer r d)))
+    (ap (λ x. toCloser x (suc d)) (append-assoc a (c ∷ b) r)
+    ∙ over-block inner (c ∷ (b ++ r)) (suc d)
+    ∙ ap (λ n. length a + n) (at-closer c (b ++ r) d cl′ op′ ∙ ap suc (over-block outer r d)))
     ∙ sums (length a) (length b) (toCloser r d) (length (a ++ c ∷ b)) (length-append a (c ∷ b))
   where
     sums : (m n x y : ℕ) → y ≡ m + suc n → suc (m + suc (n + x)) ≡ suc y + x
@@ -96,8 +108,10 @@ bracket-turned k = ⊎-elim low high (cases-lt k 14)
   where
     P : ℕ → Type 0
     P k = bracket (turnedKind k) ≡ bracket k
+
     low : k < 14 → P k
     low l = each-at P 0 14 k (refl, (refl, (refl, (refl, (refl, (refl, (refl, (refl, (refl, (refl, (refl, (refl, (refl, (refl, tt)))))))))))))) (omega arith) (omega arith)
+
     high : 14 ≤ k → P k
     high l = ap bracket (cond-false (ltb k 14) _ _ (le-ltb k 14 l))
 
@@ -108,10 +122,10 @@ turned-block (pair o c a b opened kinds inner outer) =
     let o′ = turnedLine o in
     let c′ = turnedLine c in
     let same : turned (o ∷ (a ++ c ∷ b)) ≡ turned b ++ (c′ ∷ (turned a ++ (o′ ∷ []))) =
-        turned-cons o (a ++ c ∷ b)
-        ∙ ap (λ x. x ++ (o′ ∷ [])) (turned-append a (c ∷ b) ∙ ap (λ x. x ++ turned a) (turned-cons c b))
-        ∙ append-assoc (turned b ++ (c′ ∷ [])) (turned a) (o′ ∷ [])
-        ∙ append-assoc (turned b) (c′ ∷ []) (turned a ++ (o′ ∷ [])) in
+    turned-cons o (a ++ c ∷ b)
+    ∙ ap (λ x. x ++ (o′ ∷ [])) (turned-append a (c ∷ b) ∙ ap (λ x. x ++ turned a) (turned-cons c b))
+    ∙ append-assoc (turned b ++ (c′ ∷ [])) (turned a) (o′ ∷ [])
+    ∙ append-assoc (turned b) (c′ ∷ []) (turned a ++ (o′ ∷ [])) in
     let opened′ : opens (turnedKind (c .kind)) ≡ true = rw (kinds, turned-twice (o .kind)) opened in
     subst Block (sym same) (joined (turned-block outer) (pair c′ o′ (turned a) [] opened′ (sym kinds ∙ sym (turned-twice (c .kind))) (turned-block inner) empty))
 
@@ -150,34 +164,34 @@ module _ (ls : List Line) (p : Paired ls) where
 
   to-close : toCloser (drop (suc openAt) ls) 0 ≡ length (p .inside)
   to-close =
-    ap (λ x. toCloser (drop (suc openAt) x) 0) (p .whole ∙ sym (append-assoc (p .before) (p .opener ∷ []) (p .inside ++ p .closer ∷ p .after)))
-    ∙ ap (λ x. toCloser x 0) (drop-at (p .before ++ (p .opener ∷ [])) (p .inside ++ p .closer ∷ p .after) (suc openAt) (length-append (p .before) (p .opener ∷ []) ∙ omega arith))
-    ∙ over-block (p .block) (p .closer ∷ p .after) 0
-    ∙ ap (λ n. length (p .inside) + n) (at-end (p .closer) (p .after) (rw (p .kinds) (closes-turned (p .opener .kind) (p .opened) .0)))
-    ∙ omega arith
+      ap (λ x. toCloser (drop (suc openAt) x) 0) (p .whole ∙ sym (append-assoc (p .before) (p .opener ∷ []) (p .inside ++ p .closer ∷ p .after)))
+      ∙ ap (λ x. toCloser x 0) (drop-at (p .before ++ (p .opener ∷ [])) (p .inside ++ p .closer ∷ p .after) (suc openAt) (length-append (p .before) (p .opener ∷ []) ∙ omega arith))
+      ∙ over-block (p .block) (p .closer ∷ p .after) 0
+      ∙ ap (λ n. length (p .inside) + n) (at-end (p .closer) (p .after) (rw (p .kinds) (closes-turned (p .opener .kind) (p .opened) .0)))
+      ∙ omega arith
 
   to-open : toCloser (turned (take closeAt ls)) 0 ≡ length (p .inside)
   to-open =
-    ap (λ x. toCloser (turned (take closeAt x)) 0) cut
-    ∙ ap (λ x. toCloser (turned x) 0) (take-at (p .before ++ p .opener ∷ p .inside) (p .closer ∷ p .after) closeAt cut-length)
-    ∙ ap (λ x. toCloser x 0)
-        (turned-append (p .before) (p .opener ∷ p .inside) ∙ ap (λ x. x ++ turned (p .before)) (turned-cons (p .opener) (p .inside))
-          ∙ append-assoc (turned (p .inside)) (turnedLine (p .opener) ∷ []) (turned (p .before)))
-    ∙ over-block (turned-block (p .block)) (turnedLine (p .opener) ∷ turned (p .before)) 0
-    ∙ ap₂ (λ m n. m + n) (length-map (reverse (p .inside)) turnedLine ∙ length-reverse (p .inside))
-        (at-end (turnedLine (p .opener)) (turned (p .before)) (closes-turned (p .opener .kind) (p .opened) .0))
-    ∙ omega arith
+      ap (λ x. toCloser (turned (take closeAt x)) 0) cut
+      ∙ ap (λ x. toCloser (turned x) 0) (take-at (p .before ++ p .opener ∷ p .inside) (p .closer ∷ p .after) closeAt cut-length)
+      ∙ ap (λ x. toCloser x 0)
+      (turned-append (p .before) (p .opener ∷ p .inside) ∙ ap (λ x. x ++ turned (p .before)) (turned-cons (p .opener) (p .inside))
+      ∙ append-assoc (turned (p .inside)) (turnedLine (p .opener) ∷ []) (turned (p .before)))
+      ∙ over-block (turned-block (p .block)) (turnedLine (p .opener) ∷ turned (p .before)) 0
+      ∙ ap₂ (λ m n. m + n) (length-map (reverse (p .inside)) turnedLine ∙ length-reverse (p .inside))
+      (at-end (turnedLine (p .opener)) (turned (p .before)) (closes-turned (p .opener .kind) (p .opened) .0))
+      ∙ omega arith
 
   pub partner-open : partner ls openAt ≡ closeAt
   unfolding partner
   partner-open =
-    cond-true (opens (lineAt ls openAt .kind)) _ _ (ap (λ l. opens (l .kind)) at-open ∙ p .opened) ∙ ap (λ n. suc openAt + n) to-close ∙ omega arith
+      cond-true (opens (lineAt ls openAt .kind)) _ _ (ap (λ l. opens (l .kind)) at-open ∙ p .opened) ∙ ap (λ n. suc openAt + n) to-close ∙ omega arith
 
   pub partner-close : partner ls closeAt ≡ openAt
   unfolding partner
   partner-close =
-    cond-false (opens (lineAt ls closeAt .kind)) _ _ (ap (λ l. opens (l .kind)) at-close ∙ rw (p .kinds) (closes-turned (p .opener .kind) (p .opened) .1))
-    ∙ ap (λ n. closeAt - suc n) to-open ∙ omega arith
+      cond-false (opens (lineAt ls closeAt .kind)) _ _ (ap (λ l. opens (l .kind)) at-close ∙ rw (p .kinds) (closes-turned (p .opener .kind) (p .opened) .1))
+      ∙ ap (λ n. closeAt - suc n) to-open ∙ omega arith
 
 -- ---- every line of a block that opens or closes a pair has its pair
 
@@ -189,20 +203,20 @@ shifted a ls b p =
     let bf = p .before in
     let tail = p .inside ++ p .closer ∷ (p .after ++ b) in
     record {
-        before = a ++ bf;
-        opener = p .opener;
-        inside = p .inside;
-        closer = p .closer;
-        after = p .after ++ b;
-        whole =
-            ap (λ x. a ++ (x ++ b)) (p .whole)
-            ∙ ap (λ x. a ++ x) (append-assoc bf (p .opener ∷ (p .inside ++ p .closer ∷ p .after)) b
-                ∙ ap (λ x. bf ++ p .opener ∷ x) (append-assoc (p .inside) (p .closer ∷ p .after) b))
-            ∙ sym (append-assoc a bf (p .opener ∷ tail));
-        opened = p .opened;
-        kinds = p .kinds;
-        block = p .block
-      }
+      before = a ++ bf;
+      opener = p .opener;
+      inside = p .inside;
+      closer = p .closer;
+      after = p .after ++ b;
+      whole =
+          ap (λ x. a ++ (x ++ b)) (p .whole)
+          ∙ ap (λ x. a ++ x) (append-assoc bf (p .opener ∷ (p .inside ++ p .closer ∷ p .after)) b
+          ∙ ap (λ x. bf ++ p .opener ∷ x) (append-assoc (p .inside) (p .closer ∷ p .after) b))
+          ∙ sym (append-assoc a bf (p .opener ∷ tail));
+      opened = p .opened;
+      kinds = p .kinds;
+      block = p .block;
+    }
 
 shift : (a ls b : List Line) (i : ℕ) → Has ls i → Has (a ++ (ls ++ b)) (length a + i)
 unfolding shifted
@@ -222,20 +236,20 @@ pairs (pair o c a b opened kinds inner outer) zero h br =
     (record { before = []; opener = o; inside = a; closer = c; after = b; whole = refl; opened = opened; kinds = kinds; block = inner }, inl refl)
 pairs (pair o c a b opened kinds inner outer) (suc j) h br =
     ⊎-elim
-      (λ low. moved (o ∷ []) a (c ∷ b) j (o ∷ (a ++ c ∷ b)) (suc j) refl (omega arith)
-          (pairs inner j low (ap (λ l. bracket (l .kind)) (sym (getD-append-left a (c ∷ b) noLine j low)) ∙ br)))
-      (λ high. ⊎-elim
-        (λ e. (record { before = []; opener = o; inside = a; closer = c; after = b; whole = refl; opened = opened; kinds = kinds; block = inner }, inr (omega arith)))
-        (λ ne.
-          let k = j - suc (length a) in
-          let e : j - length a ≡ suc k = omega arith in
-          moved (o ∷ (a ++ (c ∷ []))) b [] k (o ∷ (a ++ c ∷ b)) (suc j)
-            (ap {B = List Line} (λ x. o ∷ x) (append-assoc a (c ∷ []) (b ++ []) ∙ ap (λ x. a ++ c ∷ x) (append-nil b)))
-            (omega (arith, length-append a (c ∷ [])))
-            (pairs outer k (omega (arith, length-append a (c ∷ b)))
-              (ap (λ l. bracket (l .kind)) (sym (getD-append-right a (c ∷ b) (length a) j noLine refl high ∙ ap (λ n. getD (c ∷ b) n noLine) e)) ∙ br)))
-        (cases-eq j (length a)))
-      (cases-lt j (length a))
+    (λ low. moved (o ∷ []) a (c ∷ b) j (o ∷ (a ++ c ∷ b)) (suc j) refl (omega arith)
+    (pairs inner j low (ap (λ l. bracket (l .kind)) (sym (getD-append-left a (c ∷ b) noLine j low)) ∙ br)))
+    (λ high. ⊎-elim
+    (λ e. (record { before = []; opener = o; inside = a; closer = c; after = b; whole = refl; opened = opened; kinds = kinds; block = inner }, inr (omega arith)))
+    (λ ne.
+    let k = j - suc (length a) in
+    let e : j - length a ≡ suc k = omega arith in
+    moved (o ∷ (a ++ (c ∷ []))) b [] k (o ∷ (a ++ c ∷ b)) (suc j)
+    (ap {B = List Line} (λ x. o ∷ x) (append-assoc a (c ∷ []) (b ++ []) ∙ ap (λ x. a ++ c ∷ x) (append-nil b)))
+    (omega (arith, length-append a (c ∷ [])))
+    (pairs outer k (omega (arith, length-append a (c ∷ b)))
+    (ap (λ l. bracket (l .kind)) (sym (getD-append-right a (c ∷ b) (length a) j noLine refl high ∙ ap (λ n. getD (c ∷ b) n noLine) e)) ∙ br)))
+    (cases-eq j (length a)))
+    (cases-lt j (length a))
 
 -- ---- what it gives of each line that opens or closes
 
@@ -256,23 +270,23 @@ turned-paired ls p =
     let o′ = turnedLine (p .opener) in
     let c′ = turnedLine (p .closer) in
     record {
-        before = turned (p .after);
-        opener = c′;
-        inside = turned (p .inside);
-        closer = o′;
-        after = turned (p .before);
-        whole =
-            ap turned (p .whole)
-            ∙ turned-append (p .before) (p .opener ∷ (p .inside ++ p .closer ∷ p .after))
-            ∙ ap (λ x. x ++ turned (p .before)) (turned-cons (p .opener) (p .inside ++ p .closer ∷ p .after)
-                ∙ ap (λ x. x ++ (o′ ∷ [])) (turned-append (p .inside) (p .closer ∷ p .after) ∙ ap (λ x. x ++ turned (p .inside)) (turned-cons (p .closer) (p .after))))
-            ∙ append-assoc ((turned (p .after) ++ (c′ ∷ [])) ++ turned (p .inside)) (o′ ∷ []) (turned (p .before))
-            ∙ append-assoc (turned (p .after) ++ (c′ ∷ [])) (turned (p .inside)) (o′ ∷ turned (p .before))
-            ∙ append-assoc (turned (p .after)) (c′ ∷ []) (turned (p .inside) ++ o′ ∷ turned (p .before));
-        opened = rw (p .kinds, turned-twice (p .opener .kind)) (p .opened);
-        kinds = sym (p .kinds) ∙ sym (turned-twice (p .closer .kind));
-        block = turned-block (p .block)
-      }
+      before = turned (p .after);
+      opener = c′;
+      inside = turned (p .inside);
+      closer = o′;
+      after = turned (p .before);
+      whole =
+          ap turned (p .whole)
+          ∙ turned-append (p .before) (p .opener ∷ (p .inside ++ p .closer ∷ p .after))
+          ∙ ap (λ x. x ++ turned (p .before)) (turned-cons (p .opener) (p .inside ++ p .closer ∷ p .after)
+          ∙ ap (λ x. x ++ (o′ ∷ [])) (turned-append (p .inside) (p .closer ∷ p .after) ∙ ap (λ x. x ++ turned (p .inside)) (turned-cons (p .closer) (p .after))))
+          ∙ append-assoc ((turned (p .after) ++ (c′ ∷ [])) ++ turned (p .inside)) (o′ ∷ []) (turned (p .before))
+          ∙ append-assoc (turned (p .after) ++ (c′ ∷ [])) (turned (p .inside)) (o′ ∷ turned (p .before))
+          ∙ append-assoc (turned (p .after)) (c′ ∷ []) (turned (p .inside) ++ o′ ∷ turned (p .before));
+      opened = rw (p .kinds, turned-twice (p .opener .kind)) (p .opened);
+      kinds = sym (p .kinds) ∙ sym (turned-twice (p .closer .kind));
+      block = turned-block (p .block);
+    }
 
 pub turned-length : (a : List Line) → length (turned a) ≡ length a
 turned-length a = length-map (reverse a) turnedLine ∙ length-reverse a

@@ -92,10 +92,12 @@ pub unnamed : (s : State) (p : Place) (u : Spot) (v : ℤ) (d : ℕ) (ts : List 
 unnamed s p u v d [] hp e h n = tt
 unnamed s p u v d (t ∷ ts) hp e h n =
     let (here, there) = or-parts _ _ n in
-    let (n₁, n₂) = or-parts _ _ here in
-    ( ( see-write s p (t .first) u v hp (and-parts _ (reaches d (t .first)) (h .0 .0) .0) n₁ e
-      , see-write s p (t .second) u v hp (and-parts _ (reaches d (t .second)) (h .0 .1) .0) n₂ e)
-    , unnamed s p u v d ts hp e (h .1) there
+    let (n₁, n₂) = or-parts _ _ here in (
+      (
+        see-write s p (t .first) u v hp (and-parts _ (reaches d (t .first)) (h .0 .0) .0) n₁ e,
+        see-write s p (t .second) u v hp (and-parts _ (reaches d (t .second)) (h .0 .1) .0) n₂ e,
+      ),
+      unnamed s p u v d ts hp e (h .1) there,
     )
 
 pub put-back : (b : List ℤ) (i : ℕ) (k : ℤ → ℤ) (w : ℤ) → k w ≡ getD b i (pos 0) → set (set b i w) i (k (getD (set b i w) i (pos 0))) ≡ b

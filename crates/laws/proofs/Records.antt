@@ -26,7 +26,7 @@ use Rattle.rules.specs.declared.Refusal.{Refusal}
 
 module _ (sc : Script) (l : ℕ) (s : State) (u : Spot) (spot : find s (lineAt (sc .lines) l .x) ≡ Ok u) where
   freed-at : (k : ℕ) → named (s .book) (read s u) ≡ k → ltb 0 k ≡ true → clear (s .book) 8 k ≡ true
-    → freed sc l s ≡ go l (write u (pos 0) (withBook (set (set (s .book) (recordAt k + 7) (getD (s .book) 0 (pos 0))) 0 (pos k)) s))
+      → freed sc l s ≡ go l (write u (pos 0) (withBook (set (set (s .book) (recordAt k + 7) (getD (s .book) 0 (pos 0))) 0 (pos k)) s))
   unfolding _>>=_ need
   freed-at k is p c = rw (spot, is, p, c)
 
@@ -102,16 +102,19 @@ allocated-back sc l s t w here spot low high e =
     let out : recordAt k ≤ w → w < recordAt k + 8 → ⊥ = outside-of k w outside in
     let t′ = flipped (goTo (past (s .forward) l) (write (InBook w) (pos k) (withBook (unlinked b k) s))) in
     let is : named (took b k w) (getD (took b k w) w (pos 0)) ≡ k =
-        ap (named (took b k w)) (took-ref b k w low high room out ∙ sym names) ∙ named-same (took b k w) b (getD b 0 (pos 0)) (took-length b k w low high room out) in
-    rw (sym (ok-same last))
-      (refl, refl, freed-at sc l t′ (InBook w) spot k is some (took-clear b k w low high room out empty)
-        ∙ ap₂ {C = Result State Refusal} (λ p c. Ok (goTo p (withBook c (flipped s)))) (sym here)
-            (took-back b k w low high room out names (eqZ-true (getD b w (pos 0)) (pos 0) nil)))
+    ap (named (took b k w)) (took-ref b k w low high room out ∙ sym names) ∙ named-same (took b k w) b (getD b 0 (pos 0)) (took-length b k w low high room out) in
+    rw (sym (ok-same last)) (
+      refl,
+      refl,
+      freed-at sc l t′ (InBook w) spot k is some (took-clear b k w low high room out empty)
+          ∙ ap₂ {C = Result State Refusal} (λ p c. Ok (goTo p (withBook c (flipped s)))) (sym here)
+          (took-back b k w low high room out names (eqZ-true (getD b w (pos 0)) (pos 0) nil)),
+    )
 
 module _ (sc : Script) (l : ℕ) (s : State) (u : Spot) (spot : find s (lineAt (sc .lines) l .x) ≡ Ok u) where
   allocated-at : (k : ℕ) → eqZ (read s u) (pos 0) ≡ true → not (eqZ (getD (s .book) 0 (pos 0)) (pos 0)) ≡ true → named (s .book) (getD (s .book) 0 (pos 0)) ≡ k
-    → (ltb 0 k && (not (inside u k) && clear (s .book) 7 k)) ≡ true
-    → allocated sc l s ≡ go l (write u (pos k) (withBook (unlinked (s .book) k) s))
+      → (ltb 0 k && (not (inside u k) && clear (s .book) 7 k)) ≡ true
+      → allocated sc l s ≡ go l (write u (pos k) (withBook (unlinked (s .book) k) s))
   unfolding _>>=_ need
   allocated-at k nil head is fit = rw (spot, nil, head, is, fit)
 
@@ -181,8 +184,11 @@ freed-back sc l s t w here spot low high e =
     let head = gave-head b k w low high more room names empty in
     let out = gave-outside b k w low high more room names empty in
     let is : named (gave b k w) (getD (gave b k w) 0 (pos 0)) ≡ k =
-        ap (named (gave b k w)) (head ∙ sym names) ∙ named-same (gave b k w) b (getD b w (pos 0)) (gave-length b k w low high more room names empty) in
-    rw (sym (ok-same last))
-      (refl, refl, allocated-at sc l t′ (InBook w) spot k (eqZ-from _ _ ref) (ap (λ z. not (eqZ z (pos 0))) head ∙ not-from-false _ (ne-eqb k 0 (omega arith))) is
+    ap (named (gave b k w)) (head ∙ sym names) ∙ named-same (gave b k w) b (getD b w (pos 0)) (gave-length b k w low high more room names empty) in
+    rw (sym (ok-same last)) (
+      refl,
+      refl,
+      allocated-at sc l t′ (InBook w) spot k (eqZ-from _ _ ref) (ap (λ z. not (eqZ z (pos 0))) head ∙ not-from-false _ (ne-eqb k 0 (omega arith))) is
           (and-from _ _ some (and-from _ _ (outside-from k w out) (gave-clear b k w low high more room names empty)))
-        ∙ ap₂ {C = Result State Refusal} (λ p c. Ok (goTo p (withBook c (flipped s)))) (sym here) (gave-back b k w low high more room names empty))
+          ∙ ap₂ {C = Result State Refusal} (λ p c. Ok (goTo p (withBook c (flipped s)))) (sym here) (gave-back b k w low high more room names empty),
+    )

@@ -60,17 +60,17 @@ module _ (ls : List Line) (p : Paired ls) where
 
   pub stack-opened : stackAt ls (suc (openAt ls p)) ≡ p .opener ∷ below
   stack-opened =
-    ap (λ x. stack [] (take (suc (openAt ls p)) x)) (p .whole ∙ sym (append-assoc (p .before) (p .opener ∷ []) (p .inside ++ p .closer ∷ p .after)))
-    ∙ ap (stack []) (take-at (p .before ++ p .opener ∷ []) (p .inside ++ p .closer ∷ p .after) (suc (openAt ls p)) (length-append (p .before) (p .opener ∷ []) ∙ omega arith))
-    ∙ stack-append [] (p .before) (p .opener ∷ []) ∙ after-opener below (p .opener) (p .opened)
+      ap (λ x. stack [] (take (suc (openAt ls p)) x)) (p .whole ∙ sym (append-assoc (p .before) (p .opener ∷ []) (p .inside ++ p .closer ∷ p .after)))
+      ∙ ap (stack []) (take-at (p .before ++ p .opener ∷ []) (p .inside ++ p .closer ∷ p .after) (suc (openAt ls p)) (length-append (p .before) (p .opener ∷ []) ∙ omega arith))
+      ∙ stack-append [] (p .before) (p .opener ∷ []) ∙ after-opener below (p .opener) (p .opened)
 
   pub stack-close : stackAt ls (closeAt ls p) ≡ p .opener ∷ below
   stack-close =
-    ap (λ x. stack [] (take (closeAt ls p) x)) (p .whole ∙ sym (append-assoc (p .before) (p .opener ∷ p .inside) (p .closer ∷ p .after)))
-    ∙ ap (stack []) (take-at (p .before ++ p .opener ∷ p .inside) (p .closer ∷ p .after) (closeAt ls p) (length-append (p .before) (p .opener ∷ p .inside) ∙ omega arith))
-    ∙ stack-append [] (p .before) (p .opener ∷ p .inside)
-    ∙ ap (λ x. stack x (p .inside)) (after-opener below (p .opener) (p .opened))
-    ∙ stack-block (p .block) (p .opener ∷ below)
+      ap (λ x. stack [] (take (closeAt ls p) x)) (p .whole ∙ sym (append-assoc (p .before) (p .opener ∷ p .inside) (p .closer ∷ p .after)))
+      ∙ ap (stack []) (take-at (p .before ++ p .opener ∷ p .inside) (p .closer ∷ p .after) (closeAt ls p) (length-append (p .before) (p .opener ∷ p .inside) ∙ omega arith))
+      ∙ stack-append [] (p .before) (p .opener ∷ p .inside)
+      ∙ ap (λ x. stack x (p .inside)) (after-opener below (p .opener) (p .opened))
+      ∙ stack-block (p .block) (p .opener ∷ below)
 
 -- ---- what the check found of each line
 

@@ -17,7 +17,6 @@ use Rattle.laws.proofs.Grammar.{allowed-from, accepted-from}
 use Rattle.laws.proofs.Turnable.{turned-accepted}
 use Rattle.laws.proofs.Mirrored.{turned-again, turns, mirrors}
 
-
 abbrev Good : Script → Type 0
 Good sc = checked sc ≡ accepted
 
@@ -29,14 +28,14 @@ screen-lawful = record { good-empty = refl; good-script = λ sc e. e; lawful = �
 
 pub whole : Whole
 whole = record {
-    grammar = λ sc. (allowed-from sc, accepted-from sc);
-    scripts = λ sc ok. record {
-        runs = run-laws (machine sc) (Inv sc) (lawful sc ok);
-        turns = turns sc ok;
-        mirrors = mirrors sc ok (turned-accepted sc ok);
-        again = turned-accepted sc ok;
-        twice = ap (λ ls. record { lines = ls; terms = sc .terms }) (turned-again (sc .lines))
-      };
-    keeps = keeps screenRules Good Inv screen-lawful;
-    follows = follows screenRules Good Inv screen-lawful
-  }
+  grammar = λ sc. (allowed-from sc, accepted-from sc);
+  scripts = λ sc ok. record {
+    runs = run-laws (machine sc) (Inv sc) (lawful sc ok);
+    turns = turns sc ok;
+    mirrors = mirrors sc ok (turned-accepted sc ok);
+    again = turned-accepted sc ok;
+    twice = ap (λ ls. record { lines = ls; terms = sc .terms }) (turned-again (sc .lines));
+  };
+  keeps = keeps screenRules Good Inv screen-lawful;
+  follows = follows screenRules Good Inv screen-lawful;
+}

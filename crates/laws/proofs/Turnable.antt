@@ -58,7 +58,7 @@ apart-turned : (ts : List Term) (l : Line) → l .kind < 18 → apart ts l ≡ t
 apart-turned ts l k h =
     let (a, b) = and-parts (isNone (l .x) || not (names (l .x) (termsOf ts l))) (not (within 12 13 (l .kind)) || not (alike (l .x) (l .y))) h in
     and-from (isNone (l .x) || not (names (l .x) (termsOf ts l))) (not (within 12 13 (turnedKind (l .kind))) || not (alike (l .x) (l .y))) a
-      (subst (λ t. (not t || not (alike (l .x) (l .y))) ≡ true) (sym (within-turned (l .kind) k)) b)
+    (subst (λ t. (not t || not (alike (l .x) (l .y))) ≡ true) (sym (within-turned (l .kind) k)) b)
 
 -- the four parts of `wellFormedAt`, with the form of the kind in hand
 record Formed (ts : List Term) (d : ℕ) (kind : ℕ) (f : Form) (l : Line) : Type 0 where
@@ -88,15 +88,15 @@ fits-turned ts d l n8 n9 fit =
     let t9 : eqb (turnedKind (l .kind)) 9 ≡ false = ne-eqb _ 9 (λ e. n8 (from-turned (l .kind) 9 e)) in
     let plain9 : eqb (l .kind) 9 ≡ false = ne-eqb (l .kind) 9 n9 in
     record {
-        filled = filled-turned l (fit .filled);
-        formed = formed-turned ts d l k (record {
-            sorts = G .sorts;
-            reached = G .reached;
-            room = or-left (not (eqb (turnedKind (l .kind)) 8)) _ (not-from-false _ t8);
-            expression = subst (λ b. (not (formOf (l .kind) .expression) || expressionForm ts (cond b (d - 1) d) l) ≡ true) (plain9 ∙ sym t9) (G .expression)
-          });
-        separate = apart-turned ts l k (fit .separate)
-      }
+      filled = filled-turned l (fit .filled);
+      formed = formed-turned ts d l k (record {
+        sorts = G .sorts;
+        reached = G .reached;
+        room = or-left (not (eqb (turnedKind (l .kind)) 8)) _ (not-from-false _ t8);
+        expression = subst (λ b. (not (formOf (l .kind) .expression) || expressionForm ts (cond b (d - 1) d) l) ≡ true) (plain9 ∙ sym t9) (G .expression);
+      });
+      separate = apart-turned ts l k (fit .separate);
+    }
 
 among-none : (x y : Place) → among (sort x) (sort y) ((0, 0) ∷ []) ≡ true → (d : ℕ) → (reaches d x && reaches d y) ≡ true
 among-none x y h d =
@@ -117,15 +117,15 @@ local-turned ts d o k fit =
     let G : Formed ts d 8 (formOf 8) o = subst (λ j. Formed ts d j (formOf j) o) k (formed-parts ts d o (fit .formed)) in
     let e : d ≡ suc d - 1 = omega arith in
     record {
-        filled = filled-turned o (fit .filled);
-        formed = formed-turned ts (suc d) o (low-kind o (fit .filled)) (subst (λ j. Formed ts (suc d) (turnedKind j) (formOf j) o) (sym k) (record {
-            sorts = G .sorts;
-            reached = among-none (o .x) (o .y) (G .sorts) (suc d);
-            room = refl;
-            expression = subst (λ n. expressionForm ts n o ≡ true) e (G .expression)
-          }));
-        separate = apart-turned ts o (low-kind o (fit .filled)) (fit .separate)
-      }
+      filled = filled-turned o (fit .filled);
+      formed = formed-turned ts (suc d) o (low-kind o (fit .filled)) (subst (λ j. Formed ts (suc d) (turnedKind j) (formOf j) o) (sym k) (record {
+        sorts = G .sorts;
+        reached = among-none (o .x) (o .y) (G .sorts) (suc d);
+        room = refl;
+        expression = subst (λ n. expressionForm ts n o ≡ true) e (G .expression);
+      }));
+      separate = apart-turned ts o (low-kind o (fit .filled)) (fit .separate);
+    }
 
 -- and the other way round, where there was room for the local
 delocal-turned : (ts : List Term) (d : ℕ) (c : Line) → c .kind ≡ 9 → ltb d 16 ≡ true → Fits ts (suc d) c → Fits ts d (turnedLine c)
@@ -133,15 +133,15 @@ delocal-turned ts d c k room fit =
     let G : Formed ts (suc d) 9 (formOf 9) c = subst (λ j. Formed ts (suc d) j (formOf j) c) k (formed-parts ts (suc d) c (fit .formed)) in
     let e : suc d - 1 ≡ d = omega arith in
     record {
-        filled = filled-turned c (fit .filled);
-        formed = formed-turned ts d c (low-kind c (fit .filled)) (subst (λ j. Formed ts d (turnedKind j) (formOf j) c) (sym k) (record {
-            sorts = G .sorts;
-            reached = among-none (c .x) (c .y) (G .sorts) d;
-            room = room;
-            expression = subst (λ n. expressionForm ts n c ≡ true) e (G .expression)
-          }));
-        separate = apart-turned ts c (low-kind c (fit .filled)) (fit .separate)
-      }
+      filled = filled-turned c (fit .filled);
+      formed = formed-turned ts d c (low-kind c (fit .filled)) (subst (λ j. Formed ts d (turnedKind j) (formOf j) c) (sym k) (record {
+        sorts = G .sorts;
+        reached = among-none (c .x) (c .y) (G .sorts) d;
+        room = room;
+        expression = subst (λ n. expressionForm ts n c ≡ true) e (G .expression);
+      }));
+      separate = apart-turned ts c (low-kind c (fit .filled)) (fit .separate);
+    }
 
 local-room : (ts : List Term) (d : ℕ) (o : Line) → o .kind ≡ 8 → Fits ts d o → ltb d 16 ≡ true
 local-room ts d o k fit = subst (λ j. (not (eqb j 8) || ltb d 16) ≡ true) k (formed-parts ts d o (fit .formed) .room)
@@ -163,29 +163,30 @@ turned-body (nothing d) = nothing d
 turned-body {ts} (plain d l a h f b) =
     let no : (k : ℕ) → bracket k ≡ true → l .kind ≡ k → ⊥ = λ k t e. false≢true (sym h ∙ ap bracket e ∙ t) in
     subst (Body ts d) (sym (turned-cons l a))
-      (joined-body (turned-body b) (plain d (turnedLine l) [] (bracket-turned (l .kind) ∙ h) (fits-turned ts d l (no 8 refl) (no 9 refl) f) (nothing d)))
+    (joined-body (turned-body b) (plain d (turnedLine l) [] (bracket-turned (l .kind) ∙ h) (fits-turned ts d l (no 8 refl) (no 9 refl) f) (nothing d)))
 turned-body {ts} (pair d o c a r j f g b s) = by j (turned-body b) (turned-body s)
   where
     on : (i : ℕ) → o .kind ≡ i → c .kind ≡ suc i → (i ≡ 8 → ⊥) → (i ≡ 9 → ⊥) → (suc i ≡ 8 → ⊥) → (suc i ≡ 9 → ⊥) → Joined (turnedLine c) (turnedLine o) → Body ts d (turned a) → Body ts d (turned r) → Body ts d (turned (o ∷ (a ++ c ∷ r)))
     on i ok ck a8 a9 b8 b9 j b′ s′ =
         subst (Body ts d) (sym (turned-pair o c a r))
-          (joined-body s′ (pair d (turnedLine c) (turnedLine o) (turned a) [] j
-            (fits-turned ts d c (other-kind c (suc i) 8 ck b8) (other-kind c (suc i) 9 ck b9) g) (fits-turned ts d o (other-kind o i 8 ok a8) (other-kind o i 9 ok a9) f) b′ (nothing d)))
+        (joined-body s′ (pair d (turnedLine c) (turnedLine o) (turned a) [] j
+        (fits-turned ts d c (other-kind c (suc i) 8 ck b8) (other-kind c (suc i) 9 ck b9) g) (fits-turned ts d o (other-kind o i 8 ok a8) (other-kind o i 9 ok a9) f) b′ (nothing d)))
+
     by : Joined o c → Body ts d (turned a) → Body ts d (turned r) → Body ts d (turned (o ∷ (a ++ c ∷ r)))
     by (inl (ok, ck)) b′ s′ = on 4 ok ck (λ z. omega arith) (λ z. omega arith) (λ z. omega arith) (λ z. omega arith) (inl (ap turnedKind ck, ap turnedKind ok)) b′ s′
     by (inr (ok, ck)) b′ s′ = on 6 ok ck (λ z. omega arith) (λ z. omega arith) (λ z. omega arith) (λ z. omega arith) (inr (ap turnedKind ck, ap turnedKind ok)) b′ s′
 turned-body {ts} (scope d o c a r ok ck f g b s) =
     subst (Body ts d) (sym (turned-pair o c a r))
-      (joined-body (turned-body s) (scope d (turnedLine c) (turnedLine o) (turned a) [] (ap turnedKind ck) (ap turnedKind ok)
-        (delocal-turned ts d c ck (local-room ts d o ok f) g) (local-turned ts d o ok f) (turned-body b) (nothing d)))
+    (joined-body (turned-body s) (scope d (turnedLine c) (turnedLine o) (turned a) [] (ap turnedKind ck) (ap turnedKind ok)
+    (delocal-turned ts d c ck (local-room ts d o ok f) g) (local-turned ts d o ok f) (turned-body b) (nothing d)))
 
 turned-methods : {ts : List Term} {a : List Line} → Methods ts a → Methods ts (turned a)
 turned-methods none = none
 turned-methods {ts} (method b e a r bk ek q f g body rest) =
     subst (Methods ts) (sym (turned-pair b e a r))
-      (joined-methods (turned-methods rest) (method (turnedLine e) (turnedLine b) (turned a) [] (ap turnedKind ek) (ap turnedKind bk) (sym q)
-        (fits-turned ts 0 e (other-kind e 1 8 ek (λ z. omega arith)) (other-kind e 1 9 ek (λ z. omega arith)) g)
-        (fits-turned ts 0 b (other-kind b 0 8 bk (λ z. omega arith)) (other-kind b 0 9 bk (λ z. omega arith)) f) (turned-body body) none))
+    (joined-methods (turned-methods rest) (method (turnedLine e) (turnedLine b) (turned a) [] (ap turnedKind ek) (ap turnedKind bk) (sym q)
+    (fits-turned ts 0 e (other-kind e 1 8 ek (λ z. omega arith)) (other-kind e 1 9 ek (λ z. omega arith)) g)
+    (fits-turned ts 0 b (other-kind b 0 8 bk (λ z. omega arith)) (other-kind b 0 9 bk (λ z. omega arith)) f) (turned-body body) none))
 
 -- ---- the script
 
@@ -196,45 +197,45 @@ module _ (sc : Script) (ok : checked sc ≡ accepted) where
   -- a line of the turned script is one of the script, turned
   from-end : (i : ℕ) → i < length (turned (sc .lines)) → (n - 1 - i < n) × (lineAt (turned (sc .lines)) i ≡ turnedLine (lineAt (sc .lines) (n - 1 - i)))
   from-end i h =
-    let size = turned-length (sc .lines) in
-    let low : n - 1 - i < n = omega arith in
-    let e : n - 1 - (n - 1 - i) ≡ i = omega arith in
-    (low, ap (lineAt (turned (sc .lines))) (sym e) ∙ line-turned sc (n - 1 - i) low)
+      let size = turned-length (sc .lines) in
+      let low : n - 1 - i < n = omega arith in
+      let e : n - 1 - (n - 1 - i) ≡ i = omega arith in
+      (low, ap (lineAt (turned (sc .lines))) (sym e) ∙ line-turned sc (n - 1 - i) low)
 
   -- a begin of the turned script is the end of that method
   ends-at : (q i : ℕ) → Begins (turned (sc .lines)) q i → whereIs 1 q (sc .lines) ≡ n - 1 - i
   ends-at q i (h, k, name) =
-    let (low, e) = from-end i h in
-    let kind : lineAt (sc .lines) (n - 1 - i) .kind ≡ 1 = from-turned _ 0 (ap (λ l. l .kind) (sym e) ∙ k) in
-    ap (λ x. whereIs 1 x (sc .lines)) (sym (ap (λ l. l .q) (sym e) ∙ name)) ∙ end-is sc ok (n - 1 - i) low kind
+      let (low, e) = from-end i h in
+      let kind : lineAt (sc .lines) (n - 1 - i) .kind ≡ 1 = from-turned _ 0 (ap (λ l. l .kind) (sym e) ∙ k) in
+      ap (λ x. whereIs 1 x (sc .lines)) (sym (ap (λ l. l .q) (sym e) ∙ name)) ∙ end-is sc ok (n - 1 - i) low kind
 
   turned-once : (q i j : ℕ) → Begins (turned (sc .lines)) q i → Begins (turned (sc .lines)) q j → i ≡ j
   turned-once q i j bi bj =
-    let same : n - 1 - i ≡ n - 1 - j = sym (ends-at q i bi) ∙ ends-at q j bj in
-    let size = turned-length (sc .lines) in
-    let hi = bi .0 in
-    let hj = bj .0 in
-    omega arith
+      let same : n - 1 - i ≡ n - 1 - j = sym (ends-at q i bi) ∙ ends-at q j bj in
+      let size = turned-length (sc .lines) in
+      let hi = bi .0 in
+      let hj = bj .0 in
+      omega arith
 
   turned-called : (k : ℕ) → k < length (turned (sc .lines)) → Calls (lineAt (turned (sc .lines)) k) → (i : ℕ) × Begins (turned (sc .lines)) (lineAt (turned (sc .lines)) k .q) i
   turned-called k h c =
-    let (low, e) = from-end k h in
-    let kinds : Calls (lineAt (sc .lines) (n - 1 - k)) =
-        ⊎-elim (λ z. inl (from-turned _ 16 (ap (λ l. l .kind) (sym e) ∙ z))) (λ z. inr (from-turned _ 17 (ap (λ l. l .kind) (sym e) ∙ z))) c in
-    let q = lineAt (turned (sc .lines)) k .q in
-    let has : hasMethod (turned (sc .lines)) q ≡ true = ap (λ l. hasMethod (turned (sc .lines)) (l .q)) e ∙ has-mirrored sc ok (lineAt (sc .lines) (n - 1 - k) .q) ∙ calls-method sc ok (n - 1 - k) low kinds in
-    let inside = ltb-true (whereIs 0 q (turned (sc .lines))) (length (turned (sc .lines))) has in
-    let (kind, name) = where-at 0 q (turned (sc .lines)) inside in
-    (whereIs 0 q (turned (sc .lines)), (inside, kind, name))
+      let (low, e) = from-end k h in
+      let kinds : Calls (lineAt (sc .lines) (n - 1 - k)) =
+      ⊎-elim (λ z. inl (from-turned _ 16 (ap (λ l. l .kind) (sym e) ∙ z))) (λ z. inr (from-turned _ 17 (ap (λ l. l .kind) (sym e) ∙ z))) c in
+      let q = lineAt (turned (sc .lines)) k .q in
+      let has : hasMethod (turned (sc .lines)) q ≡ true = ap (λ l. hasMethod (turned (sc .lines)) (l .q)) e ∙ has-mirrored sc ok (lineAt (sc .lines) (n - 1 - k) .q) ∙ calls-method sc ok (n - 1 - k) low kinds in
+      let inside = ltb-true (whereIs 0 q (turned (sc .lines))) (length (turned (sc .lines))) has in
+      let (kind, name) = where-at 0 q (turned (sc .lines)) inside in
+      (whereIs 0 q (turned (sc .lines)), (inside, kind, name))
 
   pub turned-accepted : checked (turnedScript sc) ≡ accepted
   turned-accepted =
-    let all = allowed-from sc ok in
-    let size = turned-length (sc .lines) in
-    accepted-from (turnedScript sc) (record {
+      let all = allowed-from sc ok in
+      let size = turned-length (sc .lines) in
+      accepted-from (turnedScript sc) (record {
         lines = let few = all .lines in omega arith;
         terms = all .terms;
         methods = turned-methods (all .methods);
         once = turned-once;
-        called = turned-called
+        called = turned-called;
       })

@@ -24,8 +24,10 @@ turned-twice k = ⊎-elim low high (cases-lt k 14)
   where
     P : ℕ → Type 0
     P k = turnedKind (turnedKind k) ≡ k
+
     low : k < 14 → P k
     low h = each-at P 0 14 k (refl, (refl, (refl, (refl, (refl, (refl, (refl, (refl, (refl, (refl, (refl, (refl, (refl, (refl, tt)))))))))))))) (omega arith) (omega arith)
+
     high : 14 ≤ k → P k
     high h = rw (le-ltb k 14 h, le-ltb k 14 h)
 

@@ -121,18 +121,25 @@ taken-word : (t : Term) (a b : Result ℤ Refusal) → ((v : ℤ) → a ≡ Ok v
 unfolding taken
 taken-word t a b here =
     all-at Words
-      ( (λ vs. onto vs (word (t .number)))
-      ∷ (λ vs. a >>= onto vs)
-      ∷ (λ vs. a >>= λ v. onto vs (truth (eqZ v (pos 0))))
-      ∷ (λ vs. a >>= λ v. b >>= λ w. onto vs (truth (eqZ v w)))
-      ∷ [])
-      (t .kind) (operated (t .kind))
-      ( onto-word (word (t .number)) (word-is (t .number))
-      , ((λ vs us h e. passed _ _ e λ v is last. onto-word v (here v is) vs us h last)
-      , ((λ vs us h e. passed _ _ e λ v is last. onto-word _ (truth-word _) vs us h last)
-      , ((λ vs us h e. passed _ _ e λ v is rest. passed _ _ rest λ w at last. onto-word _ (truth-word _) vs us h last)
-      , tt))))
-      (operated-word (t .kind))
+    ((λ vs. onto vs (word (t .number)))
+    ∷ (λ vs. a >>= onto vs)
+    ∷ (λ vs. a >>= λ v. onto vs (truth (eqZ v (pos 0))))
+    ∷ (λ vs. a >>= λ v. b >>= λ w. onto vs (truth (eqZ v w)))
+    ∷ [])
+    (t .kind) (operated (t .kind)) (
+      onto-word (word (t .number)) (word-is (t .number)),
+      (
+        (λ vs us h e. passed _ _ e λ v is last. onto-word v (here v is) vs us h last),
+        (
+          (λ vs us h e. passed _ _ e λ v is last. onto-word _ (truth-word _) vs us h last),
+          (
+            (λ vs us h e. passed _ _ e λ v is rest. passed _ _ rest λ w at last. onto-word _ (truth-word _) vs us h last),
+            tt,
+          ),
+        ),
+      ),
+    )
+    (operated-word (t .kind))
 
 pub worked-word : (see : Place → Result ℤ Refusal) → ((p : Place) (v : ℤ) → see p ≡ Ok v → IsWord v) → (ts : List Term) (vs : List ℤ) (v : ℤ) → All IsWord vs → worked see ts vs ≡ Ok v → IsWord v
 unfolding worked

@@ -16,6 +16,10 @@ pub data Verdict (R : Type 0) : Type 0 where
   accepted : Verdict R
   rejected : R → ℕ → Verdict R
 
+abbrev pub isAccepted : {R : Type 0} → Verdict R → Bool
+isAccepted accepted = true
+isAccepted (rejected r k) = false
+
 -- What a screen goes by. S is the type of states, B of books, W of words, C of scripts, R of refusals.
 pub record Rules (S B W C R : Type 0) : Type 0 where
   pub machine : C → Machine S B R

@@ -6,7 +6,7 @@ use lib.Dec.{eqb, leb, ltb}
 use lib.IntN.{pos}
 use lib.ListN.{length, getD}
 use Rattle.std.specs.declared.result.Result.{Result}
-use Rattle.reversible.specs.Ledger.{Verdict, accepted, rejected}
+use Rattle.reversible.specs.Ledger.{Verdict, accepted, rejected, isAccepted}
 use Rattle.rules.specs.Answer.{_>>=_, need, either}
 use Rattle.rules.specs.Word.{eqZ}
 use Rattle.rules.specs.Kinds.{code}
@@ -222,3 +222,7 @@ abbrev pub checked : Script → Verdict Refusal
 checked sc =
     let rest = walked sc 0 [] (sc .lines) in
     cond (small sc) rest (rejected TooLong 0)
+
+-- whether the check accepts, as a test
+abbrev pub allowed : Script → Bool
+allowed sc = isAccepted (checked sc)
