@@ -1,1 +1,3 @@
 pub mod Programs
+pub mod Reading
+pub mod Verdicts

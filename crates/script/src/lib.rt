@@ -1,3 +1,9 @@
 // Scripts: the check, turning, and the checked program that the machine runs.
 
+pub mod checking;
+mod expressions;
+mod forms;
+mod judging;
+mod nesting;
+mod openers;
 pub mod program;

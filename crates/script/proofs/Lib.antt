@@ -1,0 +1,5 @@
+mod Kinded
+mod Expression
+mod Stacks
+mod Lines
+mod Walks
