@@ -191,6 +191,7 @@ module _ (ls : List Line) (p : Paired ls) where
   unfolding partner
   partner-close =
       cond-false (opens (lineAt ls closeAt .kind)) _ _ (ap (λ l. opens (l .kind)) at-close ∙ rw (p .kinds) (closes-turned (p .opener .kind) (p .opened) .1))
+      ∙ cond-true (closes (lineAt ls closeAt .kind)) _ _ (ap (λ l. closes (l .kind)) at-close ∙ rw (p .kinds) (closes-turned (p .opener .kind) (p .opened) .0))
       ∙ ap (λ n. closeAt - suc n) to-open ∙ omega arith
 
 -- ---- every line of a block that opens or closes a pair has its pair

@@ -92,10 +92,11 @@ toCloser (l ∷ ls) d =
     let rest = toCloser ls (deeper (l .kind) d) in
     cond (closes (l .kind) && eqb d 0) 0 (suc rest)
 
--- the other line of the pair that line k belongs to; from a closer it is looked for in the turned lines
+-- the other line of the pair that line k belongs to, k itself if it belongs to none; from a closer it is looked for in the turned lines
 unfoldable pub partner : List Line → ℕ → ℕ
 partner ls k =
-    cond (opens (lineAt ls k .kind)) (suc k + toCloser (drop (suc k) ls) 0) (k - suc (toCloser (turned (take k ls)) 0))
+    cond (opens (lineAt ls k .kind)) (suc k + toCloser (drop (suc k) ls) 0)
+    (cond (closes (lineAt ls k .kind)) (k - suc (toCloser (turned (take k ls)) 0)) k)
 
 -- ---- methods
 

@@ -3,3 +3,5 @@ mod Expression
 mod Stacks
 mod Lines
 mod Walks
+mod Turned
+mod Copied

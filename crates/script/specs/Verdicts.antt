@@ -8,8 +8,8 @@ use Rattle.std.specs.declared.result.Result.{Result}
 use Rattle.std.specs.declared.result.Result.the-variants.{Ok, Err}
 use Rattle.reversible.specs.Ledger.{Verdict, accepted, rejected}
 use Rattle.rules.specs.Kinds.{code}
-use Rattle.rules.specs.Script.{Script, hasMethod}
-use Rattle.rules.specs.Check.{within, walked, calls}
+use Rattle.rules.specs.Script.{Script, hasMethod, turned}
+use Rattle.rules.specs.Check.{within, walked, calls, checked}
 use Rattle.rules.specs.declared.Kind.the-variants.{Call, Uncall}
 use Rattle.rules.specs.declared.Line.{Line}
 use Rattle.rules.specs.declared.Term.{Term}
@@ -38,3 +38,13 @@ LinesChecked (Err f) sc = walked sc 0 [] (sc .lines) ≡ rejected (f .refusal) (
 
 abbrev pub CallsChecked : Result (Unit {0}) Fault → List Line → Type 0
 CallsChecked r ls = calls ls 0 ls ≡ verdict r
+
+-- the table after a turn that gave this answer
+abbrev pub turnedIf : Result (Unit {0}) Fault → List Line → List Line
+turnedIf (Ok u) ls = turned ls
+turnedIf (Err f) ls = ls
+
+-- a turned table is accepted too, and turned again it is what it was
+abbrev pub TurnsBack : Result (Unit {0}) Fault → List Line → List Line → List Term → Type 0
+TurnsBack (Ok u) before after ts = (checked (scriptFrom after ts) ≡ accepted) × (turned after ≡ before)
+TurnsBack (Err f) before after ts = Unit {0}

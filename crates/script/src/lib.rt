@@ -7,3 +7,5 @@ mod judging;
 mod nesting;
 mod openers;
 pub mod program;
+mod tables;
+pub mod turning;

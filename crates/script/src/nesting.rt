@@ -30,7 +30,7 @@ pub(crate) fn nothing_open() -> Openers
     }
 }
 
-fn opens(kind: u8) -> bool
+pub(crate) fn opens(kind: u8) -> bool
     ensures { λ r. ⌜ r ≡ isOpener kind ⌝ }
 {
     match kind {
@@ -42,7 +42,7 @@ fn opens(kind: u8) -> bool
     }
 }
 
-fn closes(kind: u8) -> bool
+pub(crate) fn closes(kind: u8) -> bool
     ensures { λ r. ⌜ r ≡ isCloser kind ⌝ }
 {
     match kind {
