@@ -28,15 +28,15 @@ use Rattle.reversible.specs.Ledger.{Verdict, accepted, rejected}
 abbrev test : ℕ → ℕ → Line → Bool
 test k q l = eqb (l .kind) k && eqb (l .q) q
 
-where-here : (k q : ℕ) (l : Line) (ls : List Line) → test k q l ≡ true → whereIs k q (l ∷ ls) ≡ 0
+pub where-here : (k q : ℕ) (l : Line) (ls : List Line) → test k q l ≡ true → whereIs k q (l ∷ ls) ≡ 0
 unfolding whereIs
 where-here k q l ls e = rw (e, whereIs)
 
-where-next : (k q : ℕ) (l : Line) (ls : List Line) → test k q l ≡ false → whereIs k q (l ∷ ls) ≡ suc (whereIs k q ls)
+pub where-next : (k q : ℕ) (l : Line) (ls : List Line) → test k q l ≡ false → whereIs k q (l ∷ ls) ≡ suc (whereIs k q ls)
 unfolding whereIs
 where-next k q l ls e = rw (e, whereIs)
 
-where-none : (k q : ℕ) → whereIs k q [] ≡ 0
+pub where-none : (k q : ℕ) → whereIs k q [] ≡ 0
 unfolding whereIs
 where-none k q = refl
 

@@ -5,3 +5,4 @@ mod Lines
 mod Walks
 mod Turned
 mod Copied
+mod Partners

@@ -1,5 +1,6 @@
 // Scripts: the check, turning, and the checked program that the machine runs.
 
+pub mod building;
 pub mod checking;
 mod expressions;
 mod forms;

@@ -11,7 +11,7 @@ use rules::Line;
 use rules::Term;
 
 // Kinds below 14 change their lowest bit.
-fn turned_kind(kind: u8) -> u8
+pub(crate) fn turned_kind(kind: u8) -> u8
     ensures { λ r. ⌜ r ≡ turnedKind kind ⌝ }
 {
     if kind < 14 { kind ^ 1 } else { kind }

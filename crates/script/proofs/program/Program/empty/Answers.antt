@@ -1,0 +1,31 @@
+use mathlib.Core.Path.{_≡_, refl, sym, _∙_}
+use mathlib.Core.Logic.{_≢_}
+use Prim.Native.Nat.{ℕ, _<_}
+use native.Mathlib.Omega.{arith}
+use lib.ListN.{getD, replicate, getD-replicate}
+use Rattle.laws.proofs.Methods.{where-none}
+use Rattle.script.proofs.program.Program.empty.Needs as need
+
+pub ghost-result : need.ghost-result
+ghost-result c = (
+  refl,
+  (
+    omega arith,
+    (
+      refl,
+      (
+        omega arith,
+        (
+          refl,
+          (
+            (λ k h. absurd (omega arith)),
+            (
+              (λ q h. getD-replicate 256 q 0 0 h ∙ sym (where-none 0 q)),
+              ((λ q h. getD-replicate 256 q 0 0 h ∙ sym (where-none 1 q)), tt),
+            ),
+          ),
+        ),
+      ),
+    ),
+  ),
+)
