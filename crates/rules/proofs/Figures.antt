@@ -6,7 +6,7 @@ use Rattle.rules.specs.Word.{operate}
 use Rattle.rules.specs.Script.{toCloser, partner, whereIs}
 use Rattle.rules.specs.Expression.{operated, taken, worked}
 use Rattle.rules.specs.Step.{step}
-use Rattle.rules.specs.Figures.{Figures}
+use Rattle.rules.specs.Figures.{Figures, Edges}
 
 pub figures : Figures
 unfolding wrapped operate _>>=_ need toCloser partner whereIs operated taken worked step
@@ -71,3 +71,12 @@ figures = (
     ),
   ),
 )
+
+pub edges : Edges
+unfolding wrapped operate _>>=_ need toCloser partner whereIs operated taken worked step
+edges =
+    (record { allowed = refl; numbered = refl; leaves = refl }, (
+    refl, (
+    record { allowed = refl; numbered = refl; leaves = refl }, (
+    record { allowed = refl; numbered = refl; leaves = refl }, (
+    record { allowed = refl; numbered = refl; leaves = refl }, (refl, (refl, (refl, tt))))))))

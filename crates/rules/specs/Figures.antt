@@ -18,9 +18,9 @@ use Rattle.rules.specs.Check.{checked}
 use Rattle.rules.specs.Run.{machine, numbers}
 use Rattle.rules.specs.Ledger.{screenRules}
 use Rattle.rules.specs.declared.Kind.{Kind}
-use Rattle.rules.specs.declared.Kind.the-variants.{Begin, End, Add, Subtract, From, Until, New, Swap, Call as CallLine}
+use Rattle.rules.specs.declared.Kind.the-variants.{Begin, End, Add, Subtract, If, Fi, From, Until, Local, Delocal, New, Swap, Call as CallLine}
 use Rattle.rules.specs.declared.Place.{Place}
-use Rattle.rules.specs.declared.Place.the-variants.{None, M, R, F}
+use Rattle.rules.specs.declared.Place.the-variants.{None, M, R, F, V}
 use Rattle.rules.specs.declared.Line.{Line}
 use Rattle.rules.specs.declared.Term.{Term}
 use Rattle.rules.specs.declared.Refusal.{Refusal}
@@ -54,9 +54,12 @@ place p = record { kind = 1; number = pos 0; first = p; second = None }
 abbrev pub operator : ℕ → Term
 operator k = record { kind = k; number = pos 0; first = None; second = None }
 
--- the numbers of three operators
+-- the numbers of some operators
 abbrev pub plus : ℕ
 plus = 4
+
+abbrev pub times : ℕ
+times = 7
 
 abbrev pub quotient : ℕ
 quotient = 8
@@ -131,6 +134,24 @@ callOn l = script (begin 0 ∷ over CallLine None (R 1) 1 ∷ end 0 ∷ begin 1 
 abbrev pub endless : Script
 endless = script (begin 0 ∷ over CallLine None None 0 ∷ end 0 ∷ []) []
 
+-- from 1, add m1 1, until m1 = 3: the entry test holds in later rounds too
+abbrev pub reentered : Script
+reentered =
+    script (begin 0 ∷ on From None 0 1 ∷ on Add (M 1) 0 1 ∷ on Until None 1 3 ∷ end 0 ∷ [])
+      (number (pos 1) ∷ place (M 1) ∷ number (pos 3) ∷ operator equals ∷ [])
+
+-- local 0, add v0 1, delocal 0
+abbrev pub unequal : Script
+unequal =
+    script (begin 0 ∷ on Local None 0 1 ∷ on Add (V 0) 1 1 ∷ on Delocal None 0 1 ∷ end 0 ∷ [])
+      (number (pos 0) ∷ number (pos 1) ∷ [])
+
+-- if 1, add m1 1, fi 1 / m1: the second test makes sense only after the addition
+abbrev pub later : Script
+later =
+    script (begin 0 ∷ on If None 0 1 ∷ on Add (M 1) 0 1 ∷ on Fi None 0 3 ∷ end 0 ∷ [])
+      (number (pos 1) ∷ place (M 1) ∷ operator quotient ∷ [])
+
 -- ---- figures
 
 -- a run of method 0 from a book: the three numbers, and the words that it changes
@@ -192,3 +213,20 @@ figures =
 
 abbrev pub Figures : Type 0
 Figures = All Holds figures
+
+-- further figures, each of which a likely error would change: a loop that forgets its entry test in later rounds, a call turned
+-- into an uncall, a delocal that does not compare, a test worked out too early; least and greatest words
+abbrev pub edges : List Figure
+edges =
+    running (case reentered fwd 4294967295 (book []) (10, 3, 2) [])
+    ∷ turning endless (endless .lines)
+    ∷ running (case unequal fwd 4294967295 (book []) (10, 3, 2) [])
+    ∷ running (case later fwd 4294967295 (book []) (0, 0, 3) (m1 (pos 1) ∷ []))
+    ∷ running (case later bwd 4294967295 (book (m1 (pos 1) ∷ [])) (0, 0, 3) (m1 (pos 0) ∷ []))
+    ∷ operation remainder (negsuc 2147483647) (negsuc 0) (Ok (pos 0))
+    ∷ operation remainder (pos 5) (pos 0) (Err ZeroDivisor)
+    ∷ operation times (pos 65536) (pos 32768) (Ok (negsuc 2147483647))
+    ∷ []
+
+abbrev pub Edges : Type 0
+Edges = All Holds edges

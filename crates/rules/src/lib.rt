@@ -2,7 +2,7 @@
 
 ghost use mathlib.Core.Path.{_≡_};
 ghost use Rattle.rules.specs.Answer.{number};
-ghost use Rattle.rules.specs.Figures.{Figures};
+ghost use Rattle.rules.specs.Figures.{Figures, Edges};
 ghost use Rattle.rules.specs.Kinds.{code, kindOf};
 
 // A place that a line or a term names. The index is whatever the caller wrote; the check judges it.
@@ -169,6 +169,13 @@ pub enum Spot {
 // Every worked figure of the list holds of the rules.
 pub fn figures_hold() -> u8
     ensures { λ _. ⌜ Figures ⌝ }
+{
+    0
+}
+
+// So do figures that a likely error would change.
+pub fn edges_hold() -> u8
+    ensures { λ _. ⌜ Edges ⌝ }
 {
     0
 }
