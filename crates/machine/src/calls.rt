@@ -4,10 +4,10 @@ ghost use Prim.Native.Nat.{_<_};
 ghost use lib.Dec.{ltb};
 ghost use lib.ListN.{length};
 ghost use Rattle.rules.specs.Script.{lineAt};
-ghost use Rattle.rules.specs.Step.{callee, holding, across, base, entering};
+ghost use Rattle.rules.specs.Step.{callee, holding, across, base};
 ghost use Rattle.script.specs.Programs.{scriptOf};
 ghost use Rattle.machine.specs.View.{state, Made};
-ghost use Rattle.machine.specs.Acting.{framed, under, Top, backIn, returning};
+ghost use Rattle.machine.specs.Acting.{enters, comesBack, framed, under, Top, backIn};
 use crate::changes::pass;
 use crate::places::find;
 use crate::places::find_in;
@@ -66,7 +66,7 @@ pub(crate) fn enter<S: Store>(
     forward: bool,
     y: Place,
 ) -> Result<(), Refusal>
-    ensures { λ r. ⌜ Made r (now (work .entry)) (book (now (store .entry))) (now (work .exit)) (book (now (store .exit))) (λ s. entering l s there forward y) ⌝ }
+    ensures { λ r. ⌜ Made r (now (work .entry)) (book (now (store .entry))) (now (work .exit)) (book (now (store .exit))) (λ s. enters l s there forward y) ⌝ }
 {
     if !has_room(work) {
         return Err(Refusal::TooDeep);
@@ -146,7 +146,7 @@ pub(crate) fn come_back<S: Store>(
     work: &mut Work,
     program: &Program,
 ) -> Result<(), Refusal>
-    ensures { λ r. ⌜ Made r (now (work .entry)) (book (now (store .entry))) (now (work .exit)) (book (now (store .exit))) (λ s. returning (scriptOf (now (program .entry))) s) ⌝ }
+    ensures { λ r. ⌜ Made r (now (work .entry)) (book (now (store .entry))) (now (work .exit)) (book (now (store .exit))) (λ s. comesBack (scriptOf (now (program .entry))) s) ⌝ }
 {
     let Some(f) = top_frame(work) else {
         return Err(Refusal::Unpaired);

@@ -3,13 +3,10 @@
 ghost use mathlib.Core.Path.{_≡_};
 ghost use mathlib.Core.List.{[]};
 ghost use Prim.Native.Nat.{_-_};
-ghost use lib.Bits.{bitXor};
-ghost use lib.IntN.{_+ℤ_, _-ℤ_};
 ghost use lib.ListN.{length, take};
-ghost use Rattle.rules.specs.Word.{word, onBits};
-ghost use Rattle.rules.specs.Step.{goTo, past, withLocals, write, go, changing, closing};
+ghost use Rattle.rules.specs.Step.{goTo, past, withLocals, write, go};
 ghost use Rattle.machine.specs.View.{state, Made};
-ghost use Rattle.machine.specs.Acting.{openingIn};
+ghost use Rattle.machine.specs.Acting.{raised, lowered, mixed, opens, closes};
 use crate::places::find;
 use crate::places::read_at;
 use crate::places::write_at;
@@ -54,7 +51,7 @@ pub(crate) fn raise<S: Store>(
     x: Place,
     e: i32,
 ) -> Result<(), Refusal>
-    ensures { λ r. ⌜ Made r (now (work .entry)) (book (now (store .entry))) (now (work .exit)) (book (now (store .exit))) (λ s. changing l s (λ a b. word (a +ℤ b)) x e) ⌝ }
+    ensures { λ r. ⌜ Made r (now (work .entry)) (book (now (store .entry))) (now (work .exit)) (book (now (store .exit))) (λ s. raised l s x e) ⌝ }
 {
     let u = find(work, x)?;
     let v = read_at(store, work, u);
@@ -70,7 +67,7 @@ pub(crate) fn lower<S: Store>(
     x: Place,
     e: i32,
 ) -> Result<(), Refusal>
-    ensures { λ r. ⌜ Made r (now (work .entry)) (book (now (store .entry))) (now (work .exit)) (book (now (store .exit))) (λ s. changing l s (λ a b. word (a -ℤ b)) x e) ⌝ }
+    ensures { λ r. ⌜ Made r (now (work .entry)) (book (now (store .entry))) (now (work .exit)) (book (now (store .exit))) (λ s. lowered l s x e) ⌝ }
 {
     let u = find(work, x)?;
     let v = read_at(store, work, u);
@@ -86,7 +83,7 @@ pub(crate) fn mix<S: Store>(
     x: Place,
     e: i32,
 ) -> Result<(), Refusal>
-    ensures { λ r. ⌜ Made r (now (work .entry)) (book (now (store .entry))) (now (work .exit)) (book (now (store .exit))) (λ s. changing l s (onBits bitXor) x e) ⌝ }
+    ensures { λ r. ⌜ Made r (now (work .entry)) (book (now (store .entry))) (now (work .exit)) (book (now (store .exit))) (λ s. mixed l s x e) ⌝ }
 {
     let u = find(work, x)?;
     let v = read_at(store, work, u);
@@ -101,7 +98,7 @@ pub(crate) fn open_local<S: Store>(
     l: u16,
     e: i32,
 ) -> Result<(), Refusal>
-    ensures { λ r. ⌜ Made r (now (work .entry)) (book (now (store .entry))) (now (work .exit)) (book (now (store .exit))) (λ s. openingIn l s e) ⌝ }
+    ensures { λ r. ⌜ Made r (now (work .entry)) (book (now (store .entry))) (now (work .exit)) (book (now (store .exit))) (λ s. opens l s e) ⌝ }
 {
     if work.opened >= 256 {
         return Err(Refusal::TooDeep);
@@ -134,7 +131,7 @@ pub(crate) fn close_local<S: Store>(
     l: u16,
     e: i32,
 ) -> Result<(), Refusal>
-    ensures { λ r. ⌜ Made r (now (work .entry)) (book (now (store .entry))) (now (work .exit)) (book (now (store .exit))) (λ s. closing l s e) ⌝ }
+    ensures { λ r. ⌜ Made r (now (work .entry)) (book (now (store .entry))) (now (work .exit)) (book (now (store .exit))) (λ s. closes l s e) ⌝ }
 {
     if read_at(store, work, Spot::InLocals(work.opened.saturating_sub(1))) != e {
         return Err(Refusal::TestFailed);

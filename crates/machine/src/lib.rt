@@ -8,6 +8,7 @@ mod places;
 mod records;
 mod references;
 mod stack;
+mod step;
 mod table;
 mod work;
 

@@ -1,8 +1,9 @@
 // The lines that change reference places: new, delete, copy, uncopy and swap.
 
 ghost use mathlib.Core.Path.{_≡_};
-ghost use Rattle.rules.specs.Step.{read, write, allocating, freeing, copying, uncopying, swapping};
+ghost use Rattle.rules.specs.Step.{read, write};
 ghost use Rattle.machine.specs.View.{state, Made};
+ghost use Rattle.machine.specs.Acting.{allocates, releases, duplicates, erases, exchanges};
 use crate::changes::pass;
 use crate::changes::settle;
 use crate::places::find;
@@ -27,7 +28,7 @@ pub(crate) fn allocate<S: Store>(
     l: u16,
     x: Place,
 ) -> Result<(), Refusal>
-    ensures { λ r. ⌜ Made r (now (work .entry)) (book (now (store .entry))) (now (work .exit)) (book (now (store .exit))) (λ s. allocating l s x) ⌝ }
+    ensures { λ r. ⌜ Made r (now (work .entry)) (book (now (store .entry))) (now (work .exit)) (book (now (store .exit))) (λ s. allocates l s x) ⌝ }
 {
     let u = find(work, x)?;
     if read_at(store, work, u) != 0 {
@@ -53,7 +54,7 @@ pub(crate) fn release<S: Store>(
     l: u16,
     x: Place,
 ) -> Result<(), Refusal>
-    ensures { λ r. ⌜ Made r (now (work .entry)) (book (now (store .entry))) (now (work .exit)) (book (now (store .exit))) (λ s. freeing l s x) ⌝ }
+    ensures { λ r. ⌜ Made r (now (work .entry)) (book (now (store .entry))) (now (work .exit)) (book (now (store .exit))) (λ s. releases l s x) ⌝ }
 {
     let u = find(work, x)?;
     let k = record_named(store, read_at(store, work, u));
@@ -76,7 +77,7 @@ pub(crate) fn duplicate<S: Store>(
     x: Place,
     y: Place,
 ) -> Result<(), Refusal>
-    ensures { λ r. ⌜ Made r (now (work .entry)) (book (now (store .entry))) (now (work .exit)) (book (now (store .exit))) (λ s. copying l s x y) ⌝ }
+    ensures { λ r. ⌜ Made r (now (work .entry)) (book (now (store .entry))) (now (work .exit)) (book (now (store .exit))) (λ s. duplicates l s x y) ⌝ }
 {
     let u = find(work, x)?;
     let w = find(work, y)?;
@@ -96,7 +97,7 @@ pub(crate) fn erase<S: Store>(
     x: Place,
     y: Place,
 ) -> Result<(), Refusal>
-    ensures { λ r. ⌜ Made r (now (work .entry)) (book (now (store .entry))) (now (work .exit)) (book (now (store .exit))) (λ s. uncopying l s x y) ⌝ }
+    ensures { λ r. ⌜ Made r (now (work .entry)) (book (now (store .entry))) (now (work .exit)) (book (now (store .exit))) (λ s. erases l s x y) ⌝ }
 {
     let u = find(work, x)?;
     let w = find(work, y)?;
@@ -125,7 +126,7 @@ pub(crate) fn exchange<S: Store>(
     x: Place,
     y: Place,
 ) -> Result<(), Refusal>
-    ensures { λ r. ⌜ Made r (now (work .entry)) (book (now (store .entry))) (now (work .exit)) (book (now (store .exit))) (λ s. swapping l s x y) ⌝ }
+    ensures { λ r. ⌜ Made r (now (work .entry)) (book (now (store .entry))) (now (work .exit)) (book (now (store .exit))) (λ s. exchanges l s x y) ⌝ }
 {
     let u = find(work, x)?;
     let w = find(work, y)?;

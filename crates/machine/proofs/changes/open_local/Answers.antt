@@ -10,14 +10,15 @@ use Rattle.std.proofs.shelf.Lists.{take-more-set, length-take-le}
 use Rattle.std.proofs.shelf.Signed.{toZ-ofZ}
 use Rattle.std.proofs.shelf.Ways.{tells}
 use Rattle.rules.specs.Answer.{_>>=_, need as need-that}
+use Rattle.machine.specs.Acting.{opens}
 use Rattle.machine.proofs.changes.open_local.Needs as need
 
 pub returns-then-work-ge256 : need.returns-then-work-ge256
-unfolding _>>=_ need-that
+unfolding opens _>>=_ need-that
 returns-then-work-ge256 g c = search needs
 
 pub returns : need.returns
-unfolding _>>=_ need-that
+unfolding opens _>>=_ need-that
 returns g c =
     let w = c .args .work .now in
     let n = length-take-le (w .opened) (w .locals) (search needs) in
