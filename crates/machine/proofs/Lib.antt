@@ -4,3 +4,6 @@ pub mod Clears
 pub mod Quotients
 pub mod Operations
 pub mod Terms
+pub mod Coded
+pub mod Chosen
+pub mod Methods

@@ -118,7 +118,7 @@ fn holds<S: Store>(store: &S, work: &Work, former: u16, y: Place) -> Result<(), 
 fn still_holds<S: Store>(store: &S, work: &Work, program: &Program, f: Frame) -> Result<(), Refusal>
     ensures { λ r. ⌜ r ≡ holding (backIn (f .former) (under (now (work .entry))) (state (now (work .entry)) (book (now (store .entry))))) (lineAt (scriptOf (now (program .entry)) .lines) (f .line) .y) (now (work .entry) .present) ⌝ }
 {
-    let call = line_at(program, f.line);
+    let call = line_at(program, f.line as u32);
     holds(store, work, f.former, call.y)
 }
 
@@ -153,7 +153,7 @@ pub(crate) fn come_back<S: Store>(
     };
     still_holds(store, work, program, f)?;
     drop_frame(work, f.former);
-    work.forward = direction(line_at(program, f.line).kind, work.forward);
+    work.forward = direction(line_at(program, f.line as u32).kind, work.forward);
     pass(work, f.line);
     Ok(())
 }

@@ -56,7 +56,7 @@ pub(crate) fn value<S: Store>(
 ) -> Result<i32, Refusal>
     ensures { λ r. ⌜ r ≡ valueOf (scriptOf (now (program .entry))) (state (now (work .entry)) (book (now (store .entry)))) l ⌝ }
 {
-    let line = line_at(program, l);
+    let line = line_at(program, l as u32);
     let end = (line.first as usize + line.count as usize).min(program.size);
     let start = (line.first as usize).min(end);
     let mut stack = Stack::new();

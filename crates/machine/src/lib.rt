@@ -8,8 +8,14 @@ mod places;
 mod records;
 mod references;
 mod stack;
-mod step;
+mod starts;
+mod steps;
 mod table;
 mod work;
 
+pub use starts::start;
+pub use starts::turn_round;
+pub use steps::finished;
+pub use steps::step;
+pub use steps::turn;
 pub use work::Work;

@@ -19,7 +19,7 @@ const NO_LINE: Line = Line {
     count: 0,
 };
 
-pub(crate) fn line_at(program: &Program, k: u16) -> Line
+pub(crate) fn line_at(program: &Program, k: u32) -> Line
     ensures { λ r. ⌜ r ≡ lineAt (scriptOf (now (program .entry)) .lines) k ⌝ }
 {
     if (k as usize) < program.count {

@@ -1,8 +1,10 @@
 ghost use mathlib.Core.Path.{_≡_};
 ghost use mathlib.Core.List.{[]};
 ghost use Prim.Native.Nat.{_<_};
+ghost use lib.Dec.{eqb};
 ghost use Rattle.rules.specs.Kinds.{code};
-ghost use Rattle.rules.specs.Step.{met, step as stepOf};
+ghost use Rattle.rules.specs.declared.Kind.the-variants.{End};
+ghost use Rattle.rules.specs.Step.{turnOf, met, step as stepOf, finished as isFinished};
 ghost use Rattle.script.specs.Programs.{scriptOf};
 ghost use Rattle.machine.specs.View.{state, Made};
 ghost use Rattle.machine.specs.Acting.{due, ownValue, farValue, calling, Acted};
@@ -30,20 +32,45 @@ use rules::Refusal;
 use script::program::Program;
 use store::Store;
 
-// The line whose turn it is.
-pub(crate) fn line_due(work: &Work, program: &Program) -> Option<(u16, Line)>
-    ensures { λ r. ⌜ r ≡ due (scriptOf (now (program .entry))) (state (now (work .entry)) []) ⌝ }
+// The number of the line whose turn it is.
+pub fn turn(work: &Work) -> u32
+    ensures { λ r. ⌜ r ≡ turnOf (state (now (work .entry)) []) ⌝ }
 {
-    let at = if work.forward {
+    if work.forward {
         work.position
     } else {
         work.position.saturating_sub(1)
-    };
+    }
+}
+
+// The line whose turn it is, and its number.
+fn line_due(work: &Work, program: &Program) -> Option<(u16, Line)>
+    ensures { λ r. ⌜ r ≡ due (scriptOf (now (program .entry))) (state (now (work .entry)) []) ⌝ }
+{
+    let at = turn(work);
     if (at as usize) < program.count {
-        Some((at as u16, line_at(program, at as u16)))
+        Some((at as u16, line_at(program, at)))
     } else {
         None
     }
+}
+
+// Whether a method ends with a line of this kind, met in this direction.
+fn ends(kind: u8, forward: bool) -> bool
+    ensures { λ r. ⌜ r ≡ eqb (met forward kind) (code End) ⌝ }
+{
+    let last = if forward { Kind::End } else { Kind::Begin };
+    kind == last.code()
+}
+
+// Whether an end is met forward, or a begin backward, with no frame.
+pub fn finished(work: &Work, program: &Program) -> bool
+    ensures { λ r. ⌜ r ≡ isFinished (scriptOf (now (program .entry))) (state (now (work .entry)) []) ⌝ }
+{
+    if work.depth != 0 {
+        return false;
+    }
+    ends(line_at(program, turn(work)).kind, work.forward)
 }
 
 // The value of the line's own expression, 0 for a kind without one. A local must have room first.
@@ -160,4 +187,25 @@ fn act<S: Store>(
         (Kind::Call, forward) => call(store, work, program, l, line, forward),
         (Kind::Uncall, forward) => call(store, work, program, l, line, !forward),
     }
+}
+
+// One step. A refused step alters nothing.
+pub fn step<S: Store>(store: &mut S, work: &mut Work, program: &Program) -> Result<(), Refusal>
+    ensures { λ r. ⌜ Made r (now (work .entry)) (book (now (store .entry))) (now (work .exit)) (book (now (store .exit))) (λ s. stepOf (scriptOf (now (program .entry))) s) ⌝ }
+{
+    let Some((l, line)) = line_due(work, program) else {
+        return Err(Refusal::Unknown);
+    };
+    let Some(kind) = Kind::of(line.kind) else {
+        return Err(Refusal::Unknown);
+    };
+    let answer = own_value(store, work, program, l, kind);
+    let Ok(own) = answer else {
+        return answer.and(Ok(()));
+    };
+    let answer = far_value(store, work, program, l, kind, own);
+    let Ok(far) = answer else {
+        return answer.and(Ok(()));
+    };
+    act(store, work, program, l, line, kind, own, far)
 }
