@@ -1,0 +1,4 @@
+pub mod Tabs
+pub mod Slices
+pub mod Layers
+pub mod Copies

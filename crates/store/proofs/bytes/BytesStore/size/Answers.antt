@@ -1,0 +1,6 @@
+use mathlib.Core.Path.{sym, _∙_}
+use Rattle.store.specs.Held.{length-tab}
+use Rattle.store.proofs.bytes.BytesStore.size.Needs as need
+
+pub returns : need.returns
+returns c = c .held-in-bytes .ensures ∙ sym (length-tab _ _)

@@ -1,0 +1,6 @@
+use mathlib.Core.Path.{sym, _∙_}
+use Rattle.store.specs.Held.{length-tab}
+use Rattle.store.proofs.moves.MovesStore.size.Needs as need
+
+pub returns : need.returns
+returns g c = c .size .ensures ∙ sym (length-tab _ _)

@@ -1,0 +1,60 @@
+// The word store: a book in a slice of words.
+
+ghost use mathlib.Core.Path.{_≡_};
+ghost use lib.ListN.{length, set};
+ghost use denote.Ref.{now as behind, name};
+ghost use Rattle.rules.specs.Book.{writeOf};
+ghost use Rattle.store.specs.Layout.{held, reachedIn, wordsBook};
+ghost use Rattle.store.specs.Held.{words-held};
+use crate::Store;
+use crate::reach::held_words;
+use crate::reach::reach;
+use rules::Refusal;
+
+#[derive(Drop)]
+pub struct Words<'a> {
+    words: &'a mut [i32],
+}
+
+impl<'a> Words<'a> {
+    // The store that holds the book in this slice. A slice of a length that fits no book is no book.
+    pub fn new(words: &'a mut [i32]) -> Words<'a>
+        ensures value { λ r. ⌜ behind (r .words) ≡ behind (words .entry) ⌝ }
+        ensures lends { λ r. ⌜ name (r .words) ≡ name (words .entry) ⌝ }
+    {
+        Words { words }
+    }
+
+    // Where word w stands in the slice.
+    fn place(&self, w: u32) -> Result<usize, Refusal>
+        ensures { λ r. ⌜ r ≡ reachedIn (held (length (behind (now (self .entry) .words)))) w w ⌝ }
+    {
+        reach(held_words(self.words.len()), w)
+    }
+}
+
+pub impl<'a> Store for Words<'a> as WordsStore {
+    ghost book = { λ s. wordsBook (behind (s .words)) };
+
+    ghost meant = { λ s. words-held (behind (s .words)) };
+
+    fn size(&self) -> u32 {
+        held_words(self.words.len()) as u32
+    }
+
+    fn read(&self, w: u32) -> Result<i32, Refusal> {
+        let at = self.place(w)?;
+        Ok(self.words[at])
+    }
+
+    // The slice that is lent stays the same one.
+    fn write(&mut self, w: u32, v: i32) -> Result<(), Refusal>
+        ensures answer { λ r. ⌜ r ≡ writeOf (wordsBook (behind (now (self .entry) .words))) w ⌝ }
+        ensures after { λ _. ⌜ wordsBook (behind (now (self .exit) .words)) ≡ set (wordsBook (behind (now (self .entry) .words))) w v ⌝ }
+        ensures lends { λ _. ⌜ name (now (self .exit) .words) ≡ name (now (self .entry) .words) ⌝ }
+    {
+        let at = self.place(w)?;
+        self.words[at] = v;
+        Ok(())
+    }
+}
