@@ -74,9 +74,19 @@ figures = (
 
 pub edges : Edges
 unfolding wrapped operate _>>=_ need toCloser partner whereIs operated taken worked step
-edges =
-    (record { allowed = refl; numbered = refl; leaves = refl }, (
-    refl, (
-    record { allowed = refl; numbered = refl; leaves = refl }, (
-    record { allowed = refl; numbered = refl; leaves = refl }, (
-    record { allowed = refl; numbered = refl; leaves = refl }, (refl, (refl, (refl, tt))))))))
+edges = (
+  record { allowed = refl; numbered = refl; leaves = refl },
+  (
+    refl,
+    (
+      record { allowed = refl; numbered = refl; leaves = refl },
+      (
+        record { allowed = refl; numbered = refl; leaves = refl },
+        (
+          record { allowed = refl; numbered = refl; leaves = refl },
+          (refl, (refl, (refl, tt))),
+        ),
+      ),
+    ),
+  ),
+)

@@ -138,19 +138,19 @@ endless = script (begin 0 ∷ over CallLine None None 0 ∷ end 0 ∷ []) []
 abbrev pub reentered : Script
 reentered =
     script (begin 0 ∷ on From None 0 1 ∷ on Add (M 1) 0 1 ∷ on Until None 1 3 ∷ end 0 ∷ [])
-      (number (pos 1) ∷ place (M 1) ∷ number (pos 3) ∷ operator equals ∷ [])
+    (number (pos 1) ∷ place (M 1) ∷ number (pos 3) ∷ operator equals ∷ [])
 
 -- local 0, add v0 1, delocal 0
 abbrev pub unequal : Script
 unequal =
     script (begin 0 ∷ on Local None 0 1 ∷ on Add (V 0) 1 1 ∷ on Delocal None 0 1 ∷ end 0 ∷ [])
-      (number (pos 0) ∷ number (pos 1) ∷ [])
+    (number (pos 0) ∷ number (pos 1) ∷ [])
 
 -- if 1, add m1 1, fi 1 / m1: the second test makes sense only after the addition
 abbrev pub later : Script
 later =
     script (begin 0 ∷ on If None 0 1 ∷ on Add (M 1) 0 1 ∷ on Fi None 0 3 ∷ end 0 ∷ [])
-      (number (pos 1) ∷ place (M 1) ∷ operator quotient ∷ [])
+    (number (pos 1) ∷ place (M 1) ∷ operator quotient ∷ [])
 
 -- ---- figures
 
