@@ -4,7 +4,7 @@ use Prim.Native.Nat.{ℕ}
 use Rattle.reversible.specs.Machine.{Dir}
 use Rattle.reversible.specs.Ledger.{LawfulRules, accepted}
 use Rattle.reversible.proofs.Runs.{run-laws}
-use Rattle.reversible.proofs.Ledgers.{keeps, follows}
+use Rattle.reversible.proofs.Ledgers.{keeps, follows, apart}
 use Rattle.rules.specs.Script.{Script}
 use Rattle.rules.specs.Check.{checked}
 use Rattle.rules.specs.Step.{State}
@@ -38,4 +38,5 @@ whole = record {
   };
   keeps = keeps screenRules Good Inv screen-lawful;
   follows = follows screenRules Good Inv screen-lawful;
+  apart = apart screenRules Good Inv screen-lawful;
 }

@@ -7,7 +7,7 @@ use lib.IntN.{ℤ}
 use lib.ListN.{length}
 use Rattle.reversible.specs.Machine.{Any, other}
 use Rattle.reversible.specs.Laws.{RunLaws, Turns, Carries}
-use Rattle.reversible.specs.Ledger.{Screen, Call, Keeps, Follows, screen-call, accepted}
+use Rattle.reversible.specs.Ledger.{Screen, Call, Keeps, Follows, Apart, screen-call, accepted}
 use Rattle.rules.specs.Script.{Script, turnedScript}
 use Rattle.rules.specs.Check.{checked}
 use Rattle.rules.specs.Allowed.{Allowed}
@@ -36,3 +36,5 @@ pub record Whole : Type 0 where
   pub keeps : Keeps screenRules
   -- and so does each call after any others
   pub follows : (s : Screen (List ℤ) Script) (c : Call Script) → Follows screenRules s c (screen-call screenRules s c .0) (screen-call screenRules s c .1)
+  -- one method of one accepted script, finished on two screens: the books are equal after exactly when they were equal before
+  pub apart : Apart screenRules

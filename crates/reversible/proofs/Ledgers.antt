@@ -9,8 +9,8 @@ use lib.Dec.{T, ltb}
 use lib.ListN.{length, getD, take}
 use Rattle.std.proofs.shelf.Lists.{take-more, take-all}
 use Rattle.reversible.specs.Machine.{Machine, Lawful, Dir, fwd, bwd, Outcome, done, refused, after, run}
-use Rattle.reversible.specs.Ledger.{Verdict, accepted, rejected, Rules, LawfulRules, Call, load, apply, back, look, Answer, success, refusal, seen, Entry, entry, Standing, last, struck, Screen, Ledger, carried-on, gate, attempt, carried, ledger-load, ledger-apply, ledger-back, ledger-call, screen-load, screen-apply, screen-backed, screen-back, screen-call, open-screen, open-ledger, plays, Tied, Keeps, Heard, Follows}
-use Rattle.reversible.proofs.Runs.{restores, budgets, undone}
+use Rattle.reversible.specs.Ledger.{Verdict, accepted, rejected, Rules, LawfulRules, Call, load, apply, back, look, Answer, success, refusal, seen, Entry, entry, Standing, last, struck, Screen, Ledger, carried-on, gate, attempt, carried, ledger-load, ledger-apply, ledger-back, ledger-call, screen-load, screen-apply, screen-backed, screen-back, screen-call, open-screen, open-ledger, plays, screen-after, Tied, Keeps, Heard, Follows, Apart}
+use Rattle.reversible.proofs.Runs.{restores, budgets, undone, separates}
 
 -- each standing pair is a run that finishes
 abbrev pub Stands : {S B R : Type 0} → Machine S B R → B → Standing → Type 0
@@ -149,6 +149,7 @@ module _ {S B W C R : Type 0} (rules : Rules S B W C R) (Good : C → Type 0) (I
       ap (λ (y : List (Answer W R) × Screen B C). screen-call rules (y .1) back .0) (t .same) ∙ ap (λ (y : Answer W R × Screen B C). y .0) (k .same) in
       record {
         answers = ap (λ (y : List (Answer W R) × Screen B C). y .0) (t .same);
+        script = ap (λ (y : List (Answer W R) × Screen B C). y .1 .script) (t .same);
         standing = sts;
         book = ap (λ (y : List (Answer W R) × Screen B C). y .1 .book) (t .same);
         refuses = (λ e. sts ∙ refuses-case l (l .standing) .0 (sym backs ∙ e), λ e. backs ∙ refuses-case l (l .standing) .1 (sym sts ∙ e));
@@ -173,3 +174,29 @@ module _ {S B W C R : Type 0} (rules : Rules S B W C R) (Good : C → Type 0) (I
         book = ap (λ (y : Answer W R × Screen B C). y .1 .book) g;
         onward = ap (λ (y : Screen B C). screen-call rules y c .1) e ∙ plays-more (screen-call rules) (open-screen rules a) cs c;
       }
+
+  -- an apply that succeeds is a run that finishes at the book it leaves
+  finished-apply : (s : Screen B C) (q x n : ℕ) → screen-call rules s (apply q x) .0 ≡ success n → run (rules .machine (s .script)) q fwd (s .book) x ≡ done n (screen-call rules s (apply q x) .1 .book)
+  finished-apply s q x n e = by (attempt rules (rules .machine (s .script)) (s .book) (s .standing) q x) refl e
+    where
+      by : (o : Outcome B R) → attempt rules (rules .machine (s .script)) (s .book) (s .standing) q x ≡ o → screen-apply rules s q o .0 ≡ success n
+          → run (rules .machine (s .script)) q fwd (s .book) x ≡ done n (screen-apply rules s q o .1 .book)
+      by (done k b) f e =
+          let same : k ≡ n = cc in
+          gate-done (rules .machine (s .script)) (s .book) b q x k (rules .machine (s .script) .isBook (s .book)) (rules .machine (s .script) .has q) (ltb (length (s .standing)) (rules .capacity)) f
+          ∙ ap (λ (i : ℕ). done i b) same
+      by (refused r l k b) f e = absurd (let z : _≡_ {A = ℕ} 0 1 = cc in omega arith)
+
+  good-after : (a : B) (cs : List (Call C)) → Good (screen-after rules a cs .script)
+  good-after a cs =
+      let t = plays-case cs (open-ledger rules a) (record { good = L .good-empty; stands = tt }) in
+      subst Good (sym (ap (λ (y : List (Answer W R) × Screen B C). y .1 .script) (t .same))) (t .sound .good)
+
+  pub apart : Apart rules
+  apart a b cs ds q x y n k same e f =
+      let s = screen-after rules a cs in
+      let u = screen-after rules b ds in
+      let ran : run (rules .machine (s .script)) q fwd (u .book) y ≡ done k (screen-call rules u (apply q y) .1 .book) =
+      subst (λ (c : C). run (rules .machine c) q fwd (u .book) y ≡ done k (screen-call rules u (apply q y) .1 .book)) (sym same) (finished-apply u q y k f) in
+      separates (rules .machine (s .script)) (Inv (s .script)) (L .lawful (s .script) (good-after a cs)) q fwd (s .book) (u .book)
+      (screen-call rules s (apply q x) .1 .book) (screen-call rules u (apply q y) .1 .book) x y n k (finished-apply s q x n e) ran

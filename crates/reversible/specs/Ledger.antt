@@ -169,6 +169,7 @@ module _ {S B W C R : Type 0} (rules : Rules S B W C R) where
   -- what the two have in common after these calls
   pub record Tied (a : B) (cs : List (Call C)) : Type 0 where
     pub answers : plays (screen-call rules) (open-screen rules a) cs .0 ≡ plays (ledger-call rules) (open-ledger rules a) cs .0
+    pub script : screen-after a cs .script ≡ ledger-after a cs .script
     pub standing : screen-after a cs .standing ≡ ledger-after a cs .standing
     pub book : screen-after a cs .book ≡ carried rules (ledger-after a cs)
     -- back is refused exactly when nothing stands, and otherwise takes the steps of the last pair
@@ -189,6 +190,15 @@ module _ {S B W C R : Type 0} (rules : Rules S B W C R) where
   -- the same of one call on a screen s, whatever the opening book and the calls that led to s
   abbrev pub Follows : Screen B C → Call C → Answer W R → Screen B C → Type 0
   Follows s c r s′ = (a : B) (cs : List (Call C)) → s ≡ screen-after a cs → Heard a cs c r s′
+
+module _ {S B W C R : Type 0} (rules : Rules S B W C R) where
+  -- Two screens with one script, whatever was called on each before: where both finish method q, each with a budget of its own,
+  -- their books are equal after exactly when they were equal before.
+  abbrev pub Apart : Type 0
+  Apart =
+      (a b : B) (cs ds : List (Call C)) (q x y n k : ℕ) → screen-after rules a cs .script ≡ screen-after rules b ds .script
+      → screen-call rules (screen-after rules a cs) (apply q x) .0 ≡ success n → screen-call rules (screen-after rules b ds) (apply q y) .0 ≡ success k
+      → (screen-after rules a cs .book ≡ screen-after rules b ds .book) ↔ (screen-call rules (screen-after rules a cs) (apply q x) .1 .book ≡ screen-call rules (screen-after rules b ds) (apply q y) .1 .book)
 
 -- the ledger law holds of all lawful rules (an invariant that is decided by a test, as in Lawful-runs)
 abbrev pub Ledger-law : Type 0 → Type 0 → Type 0 → Type 0 → Type 0 → Type 0
