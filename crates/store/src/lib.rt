@@ -7,6 +7,7 @@ ghost use lib.IntN.{ℤ};
 ghost use lib.ListN.{length, set};
 ghost use Rattle.rules.specs.Book.{Held, readOf, writeOf};
 
+mod arithmetic;
 mod bytes;
 mod client;
 mod moves;

@@ -2,14 +2,14 @@
 
 ghost use mathlib.Core.Path.{_≡_};
 ghost use mathlib.Core.Bool.{true};
-ghost use Prim.Native.Nat.{_-_};
-ghost use lib.IntN.{pos, _-ℤ_};
-ghost use lib.ListN.{set, replicate};
-ghost use Rattle.rules.specs.Book.{readOf, writeOf};
-ghost use Rattle.rules.specs.Word.{word};
-ghost use Rattle.store.specs.Layout.{isMark, seen, moved, movesAfter, belowAfter};
+ghost use lib.IntN.{pos};
+ghost use lib.ListN.{length, set, replicate};
+ghost use Rattle.rules.specs.Book.{writeOf};
+ghost use Rattle.store.specs.Layout.{isMark, seen, moved, markMoved, movesAfter, belowAfter};
 ghost use Rattle.store.specs.Held.{moved-held};
 use crate::Store;
+use crate::arithmetic::difference;
+use crate::arithmetic::sum;
 use rules::Refusal;
 
 const MARKS: usize = 64;
@@ -41,6 +41,25 @@ impl<S: Store> Moves<S> {
         let Moves { below, moves: _ } = self;
         below
     }
+
+    // How many words the book below has.
+    fn count(&self) -> u32
+        ensures { λ r. ⌜ r ≡ length (book (now (self .entry) .below)) ⌝ }
+    {
+        self.below.size()
+    }
+
+    // Moves mark w such that v is shown, and leaves the store below alone.
+    fn write_mark(&mut self, w: u32, v: i32) -> Result<(), Refusal>
+        requires { ⌜ isMark w ≡ true ⌝ }
+        ensures answer { λ r. ⌜ r ≡ writeOf (book (now (self .entry) .below)) w ⌝ }
+        ensures moves { λ _. ⌜ now (self .exit) .moves ≡ markMoved (now (self .entry) .moves) (book (now (self .entry) .below)) w v ⌝ }
+        ensures kept { λ _. ⌜ now (self .exit) .below ≡ now (self .entry) .below ⌝ }
+    {
+        let x = self.below.read(w)?;
+        self.moves[w as usize - 1] = difference(v, x);
+        Ok(())
+    }
 }
 
 pub impl<S: Store> Store for Moves<S> as MovesStore {
@@ -49,12 +68,12 @@ pub impl<S: Store> Store for Moves<S> as MovesStore {
     ghost meant = { λ s. moved-held (s .moves) (S·Store .book (s .below)) (S·Store .meant (s .below)) };
 
     fn size(&self) -> u32 {
-        self.below.size()
+        self.count()
     }
 
     fn read(&self, w: u32) -> Result<i32, Refusal> {
         let x = self.below.read(w)?;
-        Ok(seen_through(&self.moves, w, x))
+        Ok(shown(&self.moves, w, x))
     }
 
     // Writing a mark alters its move alone, and the store below stays that very store; any other word is written below.
@@ -66,9 +85,7 @@ pub impl<S: Store> Store for Moves<S> as MovesStore {
         ensures kept { λ _. ⌜ (isMark w ≡ true → now (self .exit) .below ≡ now (self .entry) .below) ⌝ }
     {
         if is_mark(w) {
-            let x = self.below.read(w)?;
-            move_to(&mut self.moves, w, x, v);
-            Ok(())
+            self.write_mark(w, v)
         } else {
             self.below.write(w, v)
         }
@@ -83,20 +100,12 @@ fn is_mark(w: u32) -> bool
 }
 
 // Word w as the layer shows it, where x stands below.
-fn seen_through(moves: &[i32; MARKS], w: u32, x: i32) -> i32
+fn shown(moves: &[i32; MARKS], w: u32, x: i32) -> i32
     ensures { λ r. ⌜ r ≡ seen (now (moves .entry)) w x ⌝ }
 {
     if is_mark(w) {
-        x.wrapping_add(moves[w as usize - 1])
+        sum(x, moves[w as usize - 1])
     } else {
         x
     }
-}
-
-// Makes the move of mark w such that v is shown where x stands below.
-fn move_to(moves: &mut [i32; MARKS], w: u32, x: i32, v: i32)
-    requires { ⌜ isMark w ≡ true ⌝ }
-    ensures { λ _. ⌜ now (moves .exit) ≡ set (now (moves .entry)) (w - 1) (word (v -ℤ x)) ⌝ }
-{
-    moves[w as usize - 1] = v.wrapping_sub(x);
 }

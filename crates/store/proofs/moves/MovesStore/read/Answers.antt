@@ -21,6 +21,6 @@ returns g c =
     let b = g .S·Store .book (c .args .self .now .below) in
     let i = given-in (length b) (c .args .w) (getD b (c .args .w) (pos 0)) (c .in-Continue-x .x) (c .in-Continue-x .ensures tt) in
     let f : Word (c .in-Continue-x .x) = search needs in
-    let r : Word (c .seen-through .result) = search needs in
-    ap Ok (toZ-ofZ w32 _ r ∙ c .seen-through .ensures ∙ ap (seen (c .args .self .now .moves) (c .args .w)) (toZ-ofZ w32 _ f ∙ i .1))
+    let r : Word (c .shown .result) = search needs in
+    ap Ok (toZ-ofZ w32 _ r ∙ c .shown .ensures ∙ ap (seen (c .args .self .now .moves) (c .args .w)) (toZ-ofZ w32 _ f ∙ i .1))
     ∙ sym (read-tab _ _ _ (i .0))

@@ -26,7 +26,8 @@ returns c =
     record {
       answer = sym (tab-in _ _ _ _ (i .0));
       after =
-          ap (λ k. wordsBook (set xs k (toZ w32 (ofZ w32 (c .args .v))))) (i .1)
+          ap wordsBook (c .put-word .ensures)
+          ∙ ap (λ k. wordsBook (set xs k (toZ w32 (ofZ w32 (c .args .v))))) (i .1)
           ∙ ap (λ x. wordsBook (set xs (c .args .w) x)) (toZ-ofZ w32 _ (c .fits .v))
           ∙ words-set xs (c .args .w) (c .args .v) (c .fits .v) (i .0);
       lends = refl;
