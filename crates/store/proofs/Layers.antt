@@ -16,7 +16,7 @@ use Rattle.std.proofs.shelf.Tests.{cases-bool, cases-lt, cond-both, cond-true, 
 use Rattle.std.proofs.shelf.Ways.{tells}
 use Rattle.rules.specs.Word.{word}
 use Rattle.rules.specs.Book.{Held}
-use Rattle.store.specs.Layout.{tab, isMark, seen, moved, markMoved}
+use Rattle.store.specs.Layout.{tab, isMark, moveOf, seen, moved, markMoved}
 use Rattle.store.specs.Held.{Word, held-word}
 use Rattle.store.proofs.Tabs.{tab-set, tab-past}
 
@@ -31,6 +31,15 @@ restores : (b v : ℤ) → Word v → word (b +ℤ word (v -ℤ b)) ≡ v
 restores b v f =
     let e : b +ℤ (v -ℤ b) ≡ v = omega (arith, ints) in
     wrapped-add-right w32 b (v -ℤ b) ∙ ap word e ∙ wrapped-fits w32 v f
+
+-- what is seen is the word below plus its move
+pub seen-sum : (ms : List ℤ) (i : ℕ) (x : ℤ) → Word x → word (x +ℤ moveOf ms i) ≡ seen ms i x
+seen-sum ms i x f =
+    let z : x +ℤ pos 0 ≡ x = omega (arith, ints) in
+    ⊎-elim
+    (λ e. ap (λ m. word (x +ℤ m)) (cond-true (isMark i) _ _ e) ∙ sym (cond-true (isMark i) _ _ e))
+    (λ e. ap (λ m. word (x +ℤ m)) (cond-false (isMark i) _ _ e) ∙ ap word z ∙ wrapped-fits w32 x f ∙ sym (cond-false (isMark i) _ _ e))
+    (cases-bool (isMark i))
 
 -- a move shows at its own mark alone
 seen-other : (ms : List ℤ) (w : ℕ) (m : ℤ) (i : ℕ) (x : ℤ) → isMark w ≡ true → i ≢ w → seen (set ms (w - 1) m) i x ≡ seen ms i x

@@ -63,6 +63,10 @@ withWord bs i v = put4 bs (4 * i) (ofZ w32 v / 16777216 % 256) (ofZ w32 v / 6553
 abbrev pub isMark : ℕ → Bool
 isMark w = leb 1 w && leb w 64
 
+-- what word i was moved by
+abbrev pub moveOf : List ℤ → ℕ → ℤ
+moveOf ms i = cond (isMark i) (getD ms (i - 1) (pos 0)) (pos 0)
+
 -- word i as it is seen through the moves, where x stands below
 abbrev pub seen : List ℤ → ℕ → ℤ → ℤ
 seen ms i x = cond (isMark i) (word (x +ℤ getD ms (i - 1) (pos 0))) x

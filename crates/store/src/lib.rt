@@ -12,6 +12,8 @@ mod bytes;
 mod client;
 mod moves;
 mod reach;
+#[cfg(test)]
+mod tests;
 mod words;
 
 pub use bytes::Bytes;

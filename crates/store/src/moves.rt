@@ -2,10 +2,11 @@
 
 ghost use mathlib.Core.Path.{_≡_};
 ghost use mathlib.Core.Bool.{true};
+ghost use Prim.Native.Nat.{_-_};
 ghost use lib.IntN.{pos};
 ghost use lib.ListN.{length, set, replicate};
 ghost use Rattle.rules.specs.Book.{writeOf};
-ghost use Rattle.store.specs.Layout.{isMark, seen, moved, markMoved, movesAfter, belowAfter};
+ghost use Rattle.store.specs.Layout.{isMark, moveOf, moved, markMoved, movesAfter, belowAfter};
 ghost use Rattle.store.specs.Held.{moved-held};
 use crate::Store;
 use crate::arithmetic::difference;
@@ -17,7 +18,6 @@ const MARKS: usize = 64;
 #[derive(Drop)]
 pub struct Moves<S> {
     below: S,
-    // the move of m i is the one at i - 1
     moves: [i32; MARKS],
 }
 
@@ -30,7 +30,7 @@ impl<S: Store> Moves<S> {
     {
         Moves {
             below,
-            moves: [0; MARKS],
+            moves: no_moves(),
         }
     }
 
@@ -40,6 +40,20 @@ impl<S: Store> Moves<S> {
     {
         let Moves { below, moves: _ } = self;
         below
+    }
+
+    // The store below, as it stands under the moves.
+    pub fn below(&self) -> &S
+        ensures { λ r. ⌜ now r ≡ now (self .entry) .below ⌝ }
+    {
+        &self.below
+    }
+
+    // What word w was moved by: 0 where it is no number mark.
+    pub fn move_of(&self, w: u32) -> i32
+        ensures { λ r. ⌜ r ≡ moveOf (now (self .entry) .moves) w ⌝ }
+    {
+        if is_mark(w) { self.moves[slot(w)] } else { 0 }
     }
 
     // How many words the book below has.
@@ -57,7 +71,7 @@ impl<S: Store> Moves<S> {
         ensures kept { λ _. ⌜ now (self .exit) .below ≡ now (self .entry) .below ⌝ }
     {
         let x = self.below.read(w)?;
-        self.moves[w as usize - 1] = difference(v, x);
+        self.moves[slot(w)] = difference(v, x);
         Ok(())
     }
 }
@@ -73,7 +87,7 @@ pub impl<S: Store> Store for Moves<S> as MovesStore {
 
     fn read(&self, w: u32) -> Result<i32, Refusal> {
         let x = self.below.read(w)?;
-        Ok(shown(&self.moves, w, x))
+        Ok(sum(x, self.move_of(w)))
     }
 
     // Writing a mark alters its move alone, and the store below stays that very store; any other word is written below.
@@ -99,13 +113,16 @@ fn is_mark(w: u32) -> bool
     w >= 1 && w <= 64
 }
 
-// Word w as the layer shows it, where x stands below.
-fn shown(moves: &[i32; MARKS], w: u32, x: i32) -> i32
-    ensures { λ r. ⌜ r ≡ seen (now (moves .entry)) w x ⌝ }
+// Where the move of mark w is kept.
+fn slot(w: u32) -> usize
+    requires { ⌜ isMark w ≡ true ⌝ }
+    ensures { λ r. ⌜ r ≡ w - 1 ⌝ }
 {
-    if is_mark(w) {
-        sum(x, moves[w as usize - 1])
-    } else {
-        x
-    }
+    w as usize - 1
+}
+
+fn no_moves() -> [i32; MARKS]
+    ensures { λ r. ⌜ r ≡ replicate 64 (pos 0) ⌝ }
+{
+    [0; MARKS]
 }

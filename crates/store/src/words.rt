@@ -77,9 +77,9 @@ fn word_at(words: &[i32], at: usize) -> i32
 }
 
 // Makes the word at a place v, and alters no other.
-fn put_word(words: &mut [i32], at: usize, v: i32)
-    requires { ⌜ at < length (now words) ⌝ }
-    ensures { λ _. ⌜ now (words .exit) ≡ set (now (words .entry)) at v ⌝ }
+fn put_word(to: &mut [i32], at: usize, v: i32)
+    requires { ⌜ at < length (now to) ⌝ }
+    ensures { λ _. ⌜ now (to .exit) ≡ set (now (to .entry)) at v ⌝ }
 {
-    words[at] = v;
+    to[at] = v;
 }
