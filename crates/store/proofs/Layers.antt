@@ -104,3 +104,9 @@ moved-set-mark ms b w v f k l =
     (λ h. ap (λ x. moved x b) (mark-in ms b w v h) ∙ moved-set-move ms b w v f k l)
     (λ h. ap (λ x. moved x b) (mark-past ms b w v h) ∙ tab-past _ (length b) w v h)
     (cases-lt w (length b))
+
+pub mark-by : (ms b : List ℤ) (w : ℕ) (v : ℤ) → isMark w ≡ true → length ms ≡ 64 → w < length b → moveOf (markMoved ms b w v) w ≡ word (v -ℤ getD b w (pos 0))
+mark-by ms b w v k l h =
+    let lo : 1 ≤ w = mark-least w k in
+    let hi : w ≤ 64 = mark-most w k in
+    ap (λ x. moveOf x w) (mark-in ms b w v h) ∙ cond-true (isMark w) _ _ k ∙ getD-set-same ms (w - 1) _ (pos 0) (omega arith)

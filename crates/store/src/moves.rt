@@ -2,10 +2,11 @@
 
 ghost use mathlib.Core.Path.{_≡_};
 ghost use mathlib.Core.Bool.{true};
-ghost use Prim.Native.Nat.{_-_};
-ghost use lib.IntN.{pos};
-ghost use lib.ListN.{length, set, replicate};
+ghost use Prim.Native.Nat.{_-_, _<_};
+ghost use lib.IntN.{pos, _-ℤ_};
+ghost use lib.ListN.{length, getD, set, replicate};
 ghost use Rattle.rules.specs.Book.{writeOf};
+ghost use Rattle.rules.specs.Word.{word};
 ghost use Rattle.store.specs.Layout.{isMark, moveOf, moved, markMoved, movesAfter, belowAfter};
 ghost use Rattle.store.specs.Held.{moved-held};
 use crate::Store;
@@ -90,13 +91,15 @@ pub impl<S: Store> Store for Moves<S> as MovesStore {
         Ok(sum(x, self.move_of(w)))
     }
 
-    // Writing a mark alters its move alone, and the store below stays that very store; any other word is written below.
+    // Writing a mark alters its move alone, to what v is above the word below, and the store below stays that very store.
+    // Any other word is written below.
     fn write(&mut self, w: u32, v: i32) -> Result<(), Refusal>
         ensures answer { λ r. ⌜ r ≡ writeOf (moved (now (self .entry) .moves) (S·Store .book (now (self .entry) .below))) w ⌝ }
         ensures after { λ _. ⌜ moved (now (self .exit) .moves) (S·Store .book (now (self .exit) .below)) ≡ set (moved (now (self .entry) .moves) (S·Store .book (now (self .entry) .below))) w v ⌝ }
         ensures moves { λ _. ⌜ now (self .exit) .moves ≡ movesAfter (now (self .entry) .moves) (S·Store .book (now (self .entry) .below)) w v ⌝ }
         ensures below { λ _. ⌜ S·Store .book (now (self .exit) .below) ≡ belowAfter (S·Store .book (now (self .entry) .below)) w v ⌝ }
         ensures kept { λ _. ⌜ (isMark w ≡ true → now (self .exit) .below ≡ now (self .entry) .below) ⌝ }
+        ensures by { λ _. ⌜ (isMark w ≡ true → w < length (S·Store .book (now (self .entry) .below)) → moveOf (now (self .exit) .moves) w ≡ word (v -ℤ getD (S·Store .book (now (self .entry) .below)) w (pos 0))) ⌝ }
     {
         if is_mark(w) {
             self.write_mark(w, v)

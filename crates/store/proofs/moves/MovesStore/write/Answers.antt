@@ -5,9 +5,9 @@ use lib.ListN.{length, set}
 use mir.Syntax.{w32}
 use Rattle.std.proofs.shelf.Signed.{toZ-ofZ}
 use Rattle.std.proofs.shelf.Tests.{cond-true, cond-false, both-ways}
-use Rattle.store.specs.Layout.{isMark, moved, markMoved}
+use Rattle.store.specs.Layout.{isMark, moveOf, moved, markMoved}
 use Rattle.store.proofs.Tabs.{reached-tab}
-use Rattle.store.proofs.Layers.{moved-set-mark, moved-set-other}
+use Rattle.store.proofs.Layers.{mark-by, moved-set-mark, moved-set-other}
 use Rattle.store.proofs.moves.MovesStore.write.Needs as need
 
 pub returns-then-is-mark : need.returns-then-is-mark
@@ -24,6 +24,7 @@ returns-then-is-mark g c =
       moves = e ∙ sym (cond-true (isMark (c .args .w)) _ _ mark);
       below = ap (g .S·Store .book) k ∙ sym (cond-true (isMark (c .args .w)) _ _ mark);
       kept = λ _. k;
+      by = λ m h. ap (λ x. moveOf x (c .args .w)) e ∙ mark-by ms b (c .args .w) (c .args .v) m l h;
     }
 
 pub returns-else-is-mark : need.returns-else-is-mark
@@ -37,4 +38,5 @@ returns-else-is-mark g c =
       moves = sym (cond-false (isMark (c .args .w)) _ _ other);
       below = after ∙ sym (cond-false (isMark (c .args .w)) _ _ other);
       kept = λ mark. absurd (both-ways _ other mark);
+      by = λ mark _. absurd (both-ways _ other mark);
     }
