@@ -55,7 +55,7 @@ pub impl<'a> Store for Bytes<'a> as BytesStore {
         Ok(word_at(self.bytes, at))
     }
 
-    // The slice that is lent stays the same one.
+    // The store goes on lending the same slice, so that its owner knows what it holds afterwards.
     fn write(&mut self, w: u32, v: i32) -> Result<(), Refusal>
         ensures answer { λ r. ⌜ r ≡ writeOf (bytesBook (behind (now (self .entry) .bytes))) w ⌝ }
         ensures after { λ _. ⌜ bytesBook (behind (now (self .exit) .bytes)) ≡ set (bytesBook (behind (now (self .entry) .bytes))) w v ⌝ }

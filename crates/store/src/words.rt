@@ -56,7 +56,7 @@ pub impl<'a> Store for Words<'a> as WordsStore {
         Ok(word_at(self.words, at))
     }
 
-    // The slice that is lent stays the same one.
+    // The store goes on lending the same slice, so that its owner knows what it holds afterwards.
     fn write(&mut self, w: u32, v: i32) -> Result<(), Refusal>
         ensures answer { λ r. ⌜ r ≡ writeOf (wordsBook (behind (now (self .entry) .words))) w ⌝ }
         ensures after { λ _. ⌜ wordsBook (behind (now (self .exit) .words)) ≡ set (wordsBook (behind (now (self .entry) .words))) w v ⌝ }
