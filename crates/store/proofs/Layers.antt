@@ -1,23 +1,24 @@
 -- Moves over a book.
 use mathlib.Core.Path.{_≡_, refl, sym, _∙_, ap, subst}
 use mathlib.Core.List.{List}
-use mathlib.Core.Bool.{true, false, _&&_}
+use mathlib.Core.Bool.{true, false}
 use mathlib.Core.Logic.{_≢_, ⊎-elim}
 use Prim.Native.Nat.{ℕ, _-_, _≤_, _<_}
 use native.Mathlib.Omega.{arith}
 use lib.IntN.{ℤ, pos, _+ℤ_, _-ℤ_}
 use lib.ListN.{length, getD, set, replicate}
-use lib.Dec.{leb, ltb}
+use lib.Dec.{leb}
 use mir.Syntax.{w32}
 use Rattle.std.proofs.shelf.Signed.{wrapped-fits, wrapped-add-right, ints}
 use Rattle.std.proofs.shelf.Lists.{length-set, getD-set-same, getD-set-other, getD-replicate}
 use Rattle.std.proofs.shelf.Counted.{fill-by-all}
-use Rattle.std.proofs.shelf.Tests.{cases-bool, cond-both, cond-true, cond-false, and-parts, and-from, and-left, and-right, leb-true, lt-ltb, le-ltb}
+use Rattle.std.proofs.shelf.Tests.{cases-bool, cases-lt, cond-both, cond-true, cond-false, and-parts, leb-true}
+use Rattle.std.proofs.shelf.Ways.{tells}
 use Rattle.rules.specs.Word.{word}
 use Rattle.rules.specs.Book.{Held}
-use Rattle.store.specs.Layout.{tab, isMark, seen, moved, movesAfter}
+use Rattle.store.specs.Layout.{tab, isMark, moveOf, seen, moved, markMoved}
 use Rattle.store.specs.Held.{Word, held-word}
-use Rattle.store.proofs.Tabs.{tab-set}
+use Rattle.store.proofs.Tabs.{tab-set, tab-past}
 
 pub mark-least : (w : ℕ) → isMark w ≡ true → 1 ≤ w
 mark-least w m = leb-true 1 w (and-parts (leb 1 w) (leb w 64) m .0)
@@ -30,6 +31,15 @@ restores : (b v : ℤ) → Word v → word (b +ℤ word (v -ℤ b)) ≡ v
 restores b v f =
     let e : b +ℤ (v -ℤ b) ≡ v = omega (arith, ints) in
     wrapped-add-right w32 b (v -ℤ b) ∙ ap word e ∙ wrapped-fits w32 v f
+
+-- what is seen is the word below plus its move
+pub seen-sum : (ms : List ℤ) (i : ℕ) (x : ℤ) → Word x → word (x +ℤ moveOf ms i) ≡ seen ms i x
+seen-sum ms i x f =
+    let z : x +ℤ pos 0 ≡ x = omega (arith, ints) in
+    ⊎-elim
+    (λ e. ap (λ m. word (x +ℤ m)) (cond-true (isMark i) _ _ e) ∙ sym (cond-true (isMark i) _ _ e))
+    (λ e. ap (λ m. word (x +ℤ m)) (cond-false (isMark i) _ _ e) ∙ ap word z ∙ wrapped-fits w32 x f ∙ sym (cond-false (isMark i) _ _ e))
+    (cases-bool (isMark i))
 
 -- a move shows at its own mark alone
 seen-other : (ms : List ℤ) (w : ℕ) (m : ℤ) (i : ℕ) (x : ℤ) → isMark w ≡ true → i ≢ w → seen (set ms (w - 1) m) i x ≡ seen ms i x
@@ -49,10 +59,10 @@ seen-here ms w m x k l =
     let hi : w ≤ 64 = mark-most w k in
     cond-true (isMark w) _ _ k ∙ ap (λ y. word (x +ℤ y)) (getD-set-same ms (w - 1) m (pos 0) (omega arith))
 
--- writing a mark of the layer
-pub moved-set-mark : (ms b : List ℤ) (w : ℕ) (v : ℤ) → Word v → isMark w ≡ true → length ms ≡ 64
+-- changing one move
+moved-set-move : (ms b : List ℤ) (w : ℕ) (v : ℤ) → Word v → isMark w ≡ true → length ms ≡ 64
     → moved (set ms (w - 1) (word (v -ℤ getD b w (pos 0)))) b ≡ set (moved ms b) w v
-moved-set-mark ms b w v f k l =
+moved-set-move ms b w v f k l =
     let m = word (v -ℤ getD b w (pos 0)) in
     tab-set _ _ (length b) w v
     (λ i _ ne. seen-other ms w m i _ k ne)
@@ -81,12 +91,22 @@ moved-none b k =
     ap (λ x. word (getD b i (pos 0) +ℤ x)) z ∙ ap word a ∙ wrapped-fits w32 _ (held-word b k i h))
     (λ _. refl))))
 
--- what becomes of the moves
-pub moves-in : (ms b : List ℤ) (w : ℕ) (v : ℤ) → isMark w ≡ true → w < length b → movesAfter ms b w v ≡ set ms (w - 1) (word (v -ℤ getD b w (pos 0)))
-moves-in ms b w v k h = cond-true (isMark w && ltb w (length b)) _ _ (and-from _ _ k (lt-ltb w (length b) h))
+-- writing a mark moves it where there is a book, and otherwise nothing
+pub mark-in : (ms b : List ℤ) (w : ℕ) (v : ℤ) → w < length b → markMoved ms b w v ≡ set ms (w - 1) (word (v -ℤ getD b w (pos 0)))
+mark-in ms b w v h = grind (arith, tells)
 
-pub moves-past : (ms b : List ℤ) (w : ℕ) (v : ℤ) → length b ≤ w → movesAfter ms b w v ≡ ms
-moves-past ms b w v h = cond-false (isMark w && ltb w (length b)) _ _ (and-right _ _ (le-ltb w (length b) h))
+pub mark-past : (ms b : List ℤ) (w : ℕ) (v : ℤ) → length b ≤ w → markMoved ms b w v ≡ ms
+mark-past ms b w v h = grind (arith, tells)
 
-pub moves-other : (ms b : List ℤ) (w : ℕ) (v : ℤ) → isMark w ≡ false → movesAfter ms b w v ≡ ms
-moves-other ms b w v k = cond-false (isMark w && ltb w (length b)) _ _ (and-left _ _ k)
+pub moved-set-mark : (ms b : List ℤ) (w : ℕ) (v : ℤ) → Word v → isMark w ≡ true → length ms ≡ 64 → moved (markMoved ms b w v) b ≡ set (moved ms b) w v
+moved-set-mark ms b w v f k l =
+    ⊎-elim
+    (λ h. ap (λ x. moved x b) (mark-in ms b w v h) ∙ moved-set-move ms b w v f k l)
+    (λ h. ap (λ x. moved x b) (mark-past ms b w v h) ∙ tab-past _ (length b) w v h)
+    (cases-lt w (length b))
+
+pub mark-by : (ms b : List ℤ) (w : ℕ) (v : ℤ) → isMark w ≡ true → length ms ≡ 64 → w < length b → moveOf (markMoved ms b w v) w ≡ word (v -ℤ getD b w (pos 0))
+mark-by ms b w v k l h =
+    let lo : 1 ≤ w = mark-least w k in
+    let hi : w ≤ 64 = mark-most w k in
+    ap (λ x. moveOf x w) (mark-in ms b w v h) ∙ cond-true (isMark w) _ _ k ∙ getD-set-same ms (w - 1) _ (pos 0) (omega arith)

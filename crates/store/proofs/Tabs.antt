@@ -1,12 +1,10 @@
 -- Tables of words, and what it means that a word is reached or refused.
 use mathlib.Core.Path.{_≡_, sym, _∙_, ap}
-use mathlib.Core.Bool.{cond}
 use mathlib.Core.Logic.{_≢_, ⊎-elim}
 use Prim.Native.Nat.{ℕ, _≤_, _<_}
 use native.Mathlib.Omega.{arith}
 use lib.IntN.{ℤ, pos}
 use lib.ListN.{length, getD, set}
-use lib.Dec.{ltb, eqb}
 use Rattle.std.specs.declared.result.Result.{Result}
 use Rattle.std.specs.declared.result.Result.the-variants.{Ok, Err}
 use Rattle.std.proofs.shelf.Lists.{same-lists, length-set, getD-set-same, getD-set-other, set-past}
@@ -14,7 +12,6 @@ use Rattle.std.proofs.shelf.Tests.{cases-eq}
 use Rattle.std.proofs.shelf.Ways.{tells}
 use Rattle.rules.specs.Book.{reached, readOf}
 use Rattle.rules.specs.declared.Refusal.{Refusal}
-use Rattle.rules.specs.declared.Refusal.the-variants.{NoBook, NoSuchWord}
 use Rattle.store.specs.Layout.{tab, reachedIn}
 use Rattle.store.specs.Held.{length-tab, getD-tab}
 

@@ -2,23 +2,23 @@
 use mathlib.Core.Bool.{cond, _||_}
 use mathlib.Core.List.{List}
 use Prim.Native.Nat.{ℕ}
-use lib.IntN.{ℤ, pos, _+ℤ_}
-use lib.ListN.{length, getD, set}
+use lib.IntN.{ℤ, _+ℤ_}
+use lib.ListN.{length, set}
 use lib.Dec.{eqb}
 use Rattle.std.specs.declared.result.Result.{Result}
 use Rattle.std.specs.declared.result.Result.the-variants.{Ok, Err}
 use Rattle.rules.specs.declared.Refusal.{Refusal}
 use Rattle.rules.specs.declared.Refusal.the-variants.{NoBook, NoSuchWord}
 use Rattle.rules.specs.Answer.{either}
-use Rattle.rules.specs.Book.{reached, readOf, writeOf}
+use Rattle.rules.specs.Book.{readOf, writeOf}
 use Rattle.rules.specs.Word.{word}
 
--- word w plus a number
-abbrev pub sum : List ℤ → ℕ → ℤ → ℤ
-sum b w n = word (getD b w (pos 0) +ℤ n)
-
+-- a number added to word w: the sum is given and written, or the refusal of the read
 abbrev pub addAnswer : List ℤ → ℕ → ℤ → Result ℤ Refusal
-addAnswer b w n = reached b w (sum b w n)
+addAnswer b w n = either (readOf b w) (λ x. Ok (word (x +ℤ n))) (λ e. Err e)
+
+abbrev pub added : List ℤ → ℕ → ℤ → List ℤ
+added b w n = either (readOf b w) (λ x. set b w (word (x +ℤ n))) (λ _. b)
 
 -- word w of b copied to c: b refuses first, then c
 abbrev pub copyWordAnswer : List ℤ → List ℤ → ℕ → Result (Unit {0}) Refusal

@@ -1,13 +1,13 @@
 -- Whatever a store holds is a book or no book, and every word of it is one of 32 bits.
 use mathlib.Core.Path.{_≡_, refl, sym, _∙_, ap, subst}
 use mathlib.Core.List.{List, [], _∷_}
-use mathlib.Core.Bool.{Bool, true, _&&_}
+use mathlib.Core.Bool.{true}
 use mathlib.Core.Logic.{_⊎_, inl, inr, ⊎-elim}
 use Prim.Native.Nat.{ℕ, _/_, _%_, _<_}
 use native.Mathlib.Omega.{arith}
 use lib.IntN.{ℤ, pos, negsuc}
 use lib.ListN.{length, getD}
-use lib.Dec.{leb, eqb}
+use lib.Dec.{eqb}
 use mir.Syntax.{w32}
 use mir.Val.{SFits}
 use Rattle.std.specs.shelf.Lists.{All}
@@ -16,8 +16,8 @@ use Rattle.std.proofs.shelf.Counted.{length-map-counting, getD-map-counting}
 use Rattle.std.proofs.shelf.Elements.{all-from-getD, all-getD}
 use Rattle.std.proofs.shelf.Tests.{cond-both, eq-eqb, eqb-true, and-parts, and-from}
 use Rattle.rules.specs.Word.{eqZ, word}
-use Rattle.rules.specs.Book.{fits, allWords, isBook, Held}
-use Rattle.store.specs.Layout.{tab, held, heldInBytes, wordsBook, bytesBook, byteWord, isMark, seen, moved}
+use Rattle.rules.specs.Book.{fits, allWords, Held}
+use Rattle.store.specs.Layout.{tab, held, heldInBytes, wordsBook, bytesBook, isMark, moved}
 
 -- a signed number of 32 bits
 abbrev pub Word : ℤ → Type 0

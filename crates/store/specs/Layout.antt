@@ -1,5 +1,5 @@
 -- The book that each kind of store holds, as a table of its words.
-use mathlib.Core.List.{List, map}
+use mathlib.Core.List.{List, [], _∷_, map}
 use mathlib.Core.Bool.{Bool, cond, _&&_}
 use Prim.Native.Nat.{ℕ, _+_, _-_, _*_, _/_, _%_}
 use lib.IntN.{ℤ, pos, _+ℤ_, _-ℤ_}
@@ -12,7 +12,8 @@ use Rattle.std.specs.declared.result.Result.{Result}
 use Rattle.std.specs.declared.result.Result.the-variants.{Ok, Err}
 use Rattle.rules.specs.declared.Refusal.{Refusal}
 use Rattle.rules.specs.declared.Refusal.the-variants.{NoBook, NoSuchWord}
-use Rattle.rules.specs.Book.{fits}
+use Rattle.rules.specs.Answer.{either}
+use Rattle.rules.specs.Book.{fits, readOf}
 use Rattle.rules.specs.Word.{word}
 
 -- the n words that f gives
@@ -41,6 +42,10 @@ heldInBytes n = cond (eqb (n % 4) 0) (held (n / 4)) 0
 abbrev pub byteWord : List ℕ → ℕ → ℤ
 byteWord bs i = word (pos (getD bs (4 * i) 0 * 16777216 + getD bs (4 * i + 1) 0 * 65536 + getD bs (4 * i + 2) 0 * 256 + getD bs (4 * i + 3) 0))
 
+-- the four bytes of word i
+abbrev pub fourAt : List ℕ → ℕ → List ℕ
+fourAt bs i = getD bs (4 * i) 0 ∷ getD bs (4 * i + 1) 0 ∷ getD bs (4 * i + 2) 0 ∷ getD bs (4 * i + 3) 0 ∷ []
+
 abbrev pub bytesBook : List ℕ → List ℤ
 bytesBook bs = tab (byteWord bs) (heldInBytes (length bs))
 
@@ -58,6 +63,10 @@ withWord bs i v = put4 bs (4 * i) (ofZ w32 v / 16777216 % 256) (ofZ w32 v / 6553
 abbrev pub isMark : ℕ → Bool
 isMark w = leb 1 w && leb w 64
 
+-- what word i was moved by
+abbrev pub moveOf : List ℤ → ℕ → ℤ
+moveOf ms i = cond (isMark i) (getD ms (i - 1) (pos 0)) (pos 0)
+
 -- word i as it is seen through the moves, where x stands below
 abbrev pub seen : List ℤ → ℕ → ℤ → ℤ
 seen ms i x = cond (isMark i) (word (x +ℤ getD ms (i - 1) (pos 0))) x
@@ -65,9 +74,13 @@ seen ms i x = cond (isMark i) (word (x +ℤ getD ms (i - 1) (pos 0))) x
 abbrev pub moved : List ℤ → List ℤ → List ℤ
 moved ms b = tab (λ i. seen ms i (getD b i (pos 0))) (length b)
 
--- the moves after word w of the layer over b is written: only a mark of a book has one, and only that one changes
+-- the moves after mark w is made v over b: that mark's move is what v is above the word below, and where there is no book none changes
+abbrev pub markMoved : List ℤ → List ℤ → ℕ → ℤ → List ℤ
+markMoved ms b w v = either (readOf b w) (λ x. set ms (w - 1) (word (v -ℤ x))) (λ _. ms)
+
+-- the moves after any word is written
 abbrev pub movesAfter : List ℤ → List ℤ → ℕ → ℤ → List ℤ
-movesAfter ms b w v = cond (isMark w && ltb w (length b)) (set ms (w - 1) (word (v -ℤ getD b w (pos 0)))) ms
+movesAfter ms b w v = cond (isMark w) (markMoved ms b w v) ms
 
 -- the book below after the same write: a mark leaves it as it was
 abbrev pub belowAfter : List ℤ → ℕ → ℤ → List ℤ

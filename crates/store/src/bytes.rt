@@ -5,7 +5,7 @@ ghost use Prim.Native.Nat.{_<_};
 ghost use lib.ListN.{length, set};
 ghost use denote.Ref.{now as behind, name};
 ghost use Rattle.rules.specs.Book.{writeOf};
-ghost use Rattle.store.specs.Layout.{bytesBook, byteWord, heldInBytes, reachedIn, withWord};
+ghost use Rattle.store.specs.Layout.{bytesBook, byteWord, fourAt, heldInBytes, reachedIn, withWord};
 ghost use Rattle.store.specs.Held.{bytes-held};
 use crate::Store;
 use crate::reach::held_in_bytes;
@@ -26,11 +26,18 @@ impl<'a> Bytes<'a> {
         Bytes { bytes }
     }
 
+    // How many words the book has.
+    fn count(&self) -> usize
+        ensures { λ r. ⌜ r ≡ heldInBytes (length (behind (now (self .entry) .bytes))) ⌝ }
+    {
+        held_in_bytes(self.bytes.len())
+    }
+
     // Where word w stands among the words of the slice.
     fn place(&self, w: u32) -> Result<usize, Refusal>
         ensures { λ r. ⌜ r ≡ reachedIn (heldInBytes (length (behind (now (self .entry) .bytes)))) w w ⌝ }
     {
-        reach(held_in_bytes(self.bytes.len()), w)
+        reach(self.count(), w)
     }
 }
 
@@ -40,7 +47,7 @@ pub impl<'a> Store for Bytes<'a> as BytesStore {
     ghost meant = { λ s. bytes-held (behind (s .bytes)) };
 
     fn size(&self) -> u32 {
-        held_in_bytes(self.bytes.len()) as u32
+        self.count() as u32
     }
 
     fn read(&self, w: u32) -> Result<i32, Refusal> {
@@ -48,7 +55,7 @@ pub impl<'a> Store for Bytes<'a> as BytesStore {
         Ok(word_at(self.bytes, at))
     }
 
-    // The slice that is lent stays the same one.
+    // The store goes on lending the same slice, so that its owner knows what it holds afterwards.
     fn write(&mut self, w: u32, v: i32) -> Result<(), Refusal>
         ensures answer { λ r. ⌜ r ≡ writeOf (bytesBook (behind (now (self .entry) .bytes))) w ⌝ }
         ensures after { λ _. ⌜ bytesBook (behind (now (self .exit) .bytes)) ≡ set (bytesBook (behind (now (self .entry) .bytes))) w v ⌝ }
@@ -60,18 +67,25 @@ pub impl<'a> Store for Bytes<'a> as BytesStore {
     }
 }
 
-// The word at a place: the highest byte stands first.
+// The word at a place.
 fn word_at(bytes: &[u8], at: usize) -> i32
     requires { ⌜ at < heldInBytes (length (now bytes)) ⌝ }
     ensures { λ r. ⌜ r ≡ byteWord (now (bytes .entry)) at ⌝ }
 {
+    i32::from_be_bytes(four_at(bytes, at))
+}
+
+// The four bytes of the word at a place.
+fn four_at(bytes: &[u8], at: usize) -> [u8; 4]
+    requires { ⌜ at < heldInBytes (length (now bytes)) ⌝ }
+    ensures { λ r. ⌜ r ≡ fourAt (now (bytes .entry)) at ⌝ }
+{
     let start = 4 * at;
-    i32::from_be_bytes([
-        bytes[start],
-        bytes[start + 1],
-        bytes[start + 2],
-        bytes[start + 3],
-    ])
+    let first = bytes[start];
+    let second = bytes[start + 1];
+    let third = bytes[start + 2];
+    let fourth = bytes[start + 3];
+    [first, second, third, fourth]
 }
 
 // Makes the word at a place v, and alters no other byte.

@@ -1,19 +1,19 @@
 // Calls on any store, proved once from what a store means.
 
 ghost use mathlib.Core.Path.{_≡_};
-ghost use lib.ListN.{set};
-ghost use Rattle.store.specs.Client.{sum, addAnswer, copyWordAnswer, wordCopied, copyAnswer, copied};
+ghost use Rattle.store.specs.Client.{addAnswer, added, copyWordAnswer, wordCopied, copyAnswer, copied};
 use crate::Store;
+use crate::arithmetic::sum;
 use rules::Refusal;
 
 // Adds to word w, modulo 2^32, and gives the sum. A refusal alters nothing.
 pub fn add_to_word<S: Store>(store: &mut S, w: u32, by: i32) -> Result<i32, Refusal>
     ensures answer { λ r. ⌜ r ≡ addAnswer (book (now (store .entry))) w by ⌝ }
-    ensures after { λ _. ⌜ book (now (store .exit)) ≡ set (book (now (store .entry))) w (sum (book (now (store .entry))) w by) ⌝ }
+    ensures after { λ _. ⌜ book (now (store .exit)) ≡ added (book (now (store .entry))) w by ⌝ }
 {
-    let sum = store.read(w)?.wrapping_add(by);
-    store.write(w, sum)?;
-    Ok(sum)
+    let total = sum(store.read(w)?, by);
+    store.write(w, total)?;
+    Ok(total)
 }
 
 // Copies word w of one store to another. A refusal alters nothing.

@@ -7,10 +7,13 @@ ghost use lib.IntN.{ℤ};
 ghost use lib.ListN.{length, set};
 ghost use Rattle.rules.specs.Book.{Held, readOf, writeOf};
 
+mod arithmetic;
 mod bytes;
 mod client;
 mod moves;
 mod reach;
+#[cfg(test)]
+mod tests;
 mod words;
 
 pub use bytes::Bytes;

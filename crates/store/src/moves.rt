@@ -2,14 +2,16 @@
 
 ghost use mathlib.Core.Path.{_≡_};
 ghost use mathlib.Core.Bool.{true};
-ghost use Prim.Native.Nat.{_-_};
+ghost use Prim.Native.Nat.{_-_, _<_};
 ghost use lib.IntN.{pos, _-ℤ_};
-ghost use lib.ListN.{set, replicate};
-ghost use Rattle.rules.specs.Book.{readOf, writeOf};
+ghost use lib.ListN.{length, getD, set, replicate};
+ghost use Rattle.rules.specs.Book.{writeOf};
 ghost use Rattle.rules.specs.Word.{word};
-ghost use Rattle.store.specs.Layout.{isMark, seen, moved, movesAfter, belowAfter};
+ghost use Rattle.store.specs.Layout.{isMark, moveOf, moved, markMoved, movesAfter, belowAfter};
 ghost use Rattle.store.specs.Held.{moved-held};
 use crate::Store;
+use crate::arithmetic::difference;
+use crate::arithmetic::sum;
 use rules::Refusal;
 
 const MARKS: usize = 64;
@@ -17,7 +19,6 @@ const MARKS: usize = 64;
 #[derive(Drop)]
 pub struct Moves<S> {
     below: S,
-    // the move of m i is the one at i - 1
     moves: [i32; MARKS],
 }
 
@@ -30,7 +31,7 @@ impl<S: Store> Moves<S> {
     {
         Moves {
             below,
-            moves: [0; MARKS],
+            moves: no_moves(),
         }
     }
 
@@ -41,6 +42,39 @@ impl<S: Store> Moves<S> {
         let Moves { below, moves: _ } = self;
         below
     }
+
+    // The store below, as it stands under the moves.
+    pub fn below(&self) -> &S
+        ensures { λ r. ⌜ now r ≡ now (self .entry) .below ⌝ }
+    {
+        &self.below
+    }
+
+    // What word w was moved by: 0 where it is no number mark.
+    pub fn move_of(&self, w: u32) -> i32
+        ensures { λ r. ⌜ r ≡ moveOf (now (self .entry) .moves) w ⌝ }
+    {
+        if is_mark(w) { self.moves[slot(w)] } else { 0 }
+    }
+
+    // How many words the book below has.
+    fn count(&self) -> u32
+        ensures { λ r. ⌜ r ≡ length (book (now (self .entry) .below)) ⌝ }
+    {
+        self.below.size()
+    }
+
+    // Moves mark w such that v is shown, and leaves the store below alone.
+    fn write_mark(&mut self, w: u32, v: i32) -> Result<(), Refusal>
+        requires { ⌜ isMark w ≡ true ⌝ }
+        ensures answer { λ r. ⌜ r ≡ writeOf (book (now (self .entry) .below)) w ⌝ }
+        ensures moves { λ _. ⌜ now (self .exit) .moves ≡ markMoved (now (self .entry) .moves) (book (now (self .entry) .below)) w v ⌝ }
+        ensures kept { λ _. ⌜ now (self .exit) .below ≡ now (self .entry) .below ⌝ }
+    {
+        let x = self.below.read(w)?;
+        self.moves[slot(w)] = difference(v, x);
+        Ok(())
+    }
 }
 
 pub impl<S: Store> Store for Moves<S> as MovesStore {
@@ -49,26 +83,26 @@ pub impl<S: Store> Store for Moves<S> as MovesStore {
     ghost meant = { λ s. moved-held (s .moves) (S·Store .book (s .below)) (S·Store .meant (s .below)) };
 
     fn size(&self) -> u32 {
-        self.below.size()
+        self.count()
     }
 
     fn read(&self, w: u32) -> Result<i32, Refusal> {
         let x = self.below.read(w)?;
-        Ok(seen_through(&self.moves, w, x))
+        Ok(sum(x, self.move_of(w)))
     }
 
-    // Writing a mark alters its move alone, and the store below stays that very store; any other word is written below.
+    // Writing a mark alters its move alone, to what v is above the word below, and the store below stays that very store.
+    // Any other word is written below.
     fn write(&mut self, w: u32, v: i32) -> Result<(), Refusal>
         ensures answer { λ r. ⌜ r ≡ writeOf (moved (now (self .entry) .moves) (S·Store .book (now (self .entry) .below))) w ⌝ }
         ensures after { λ _. ⌜ moved (now (self .exit) .moves) (S·Store .book (now (self .exit) .below)) ≡ set (moved (now (self .entry) .moves) (S·Store .book (now (self .entry) .below))) w v ⌝ }
         ensures moves { λ _. ⌜ now (self .exit) .moves ≡ movesAfter (now (self .entry) .moves) (S·Store .book (now (self .entry) .below)) w v ⌝ }
         ensures below { λ _. ⌜ S·Store .book (now (self .exit) .below) ≡ belowAfter (S·Store .book (now (self .entry) .below)) w v ⌝ }
         ensures kept { λ _. ⌜ (isMark w ≡ true → now (self .exit) .below ≡ now (self .entry) .below) ⌝ }
+        ensures by { λ _. ⌜ (isMark w ≡ true → w < length (S·Store .book (now (self .entry) .below)) → moveOf (now (self .exit) .moves) w ≡ word (v -ℤ getD (S·Store .book (now (self .entry) .below)) w (pos 0))) ⌝ }
     {
         if is_mark(w) {
-            let x = self.below.read(w)?;
-            move_to(&mut self.moves, w, x, v);
-            Ok(())
+            self.write_mark(w, v)
         } else {
             self.below.write(w, v)
         }
@@ -82,21 +116,16 @@ fn is_mark(w: u32) -> bool
     w >= 1 && w <= 64
 }
 
-// Word w as the layer shows it, where x stands below.
-fn seen_through(moves: &[i32; MARKS], w: u32, x: i32) -> i32
-    ensures { λ r. ⌜ r ≡ seen (now (moves .entry)) w x ⌝ }
+// Where the move of mark w is kept.
+fn slot(w: u32) -> usize
+    requires { ⌜ isMark w ≡ true ⌝ }
+    ensures { λ r. ⌜ r ≡ w - 1 ⌝ }
 {
-    if is_mark(w) {
-        x.wrapping_add(moves[w as usize - 1])
-    } else {
-        x
-    }
+    w as usize - 1
 }
 
-// Makes the move of mark w such that v is shown where x stands below.
-fn move_to(moves: &mut [i32; MARKS], w: u32, x: i32, v: i32)
-    requires { ⌜ isMark w ≡ true ⌝ }
-    ensures { λ _. ⌜ now (moves .exit) ≡ set (now (moves .entry)) (w - 1) (word (v -ℤ x)) ⌝ }
+fn no_moves() -> [i32; MARKS]
+    ensures { λ r. ⌜ r ≡ replicate 64 (pos 0) ⌝ }
 {
-    moves[w as usize - 1] = v.wrapping_sub(x);
+    [0; MARKS]
 }

@@ -3,4 +3,4 @@ use Rattle.store.specs.Held.{length-tab}
 use Rattle.store.proofs.bytes.BytesStore.size.Needs as need
 
 pub returns : need.returns
-returns c = c .held-in-bytes .ensures ∙ sym (length-tab _ _)
+returns c = c .count .ensures ∙ sym (length-tab _ _)

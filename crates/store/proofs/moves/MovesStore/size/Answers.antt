@@ -3,4 +3,4 @@ use Rattle.store.specs.Held.{length-tab}
 use Rattle.store.proofs.moves.MovesStore.size.Needs as need
 
 pub returns : need.returns
-returns g c = c .size .ensures ∙ sym (length-tab _ _)
+returns g c = c .count .ensures ∙ sym (length-tab _ _)

@@ -1,4 +1,4 @@
-use mathlib.Core.Path.{_≡_, sym, ap, _∙_}
+use mathlib.Core.Path.{sym, ap, _∙_}
 use borrow.Author.Needs.{needs}
 use lib.IntN.{pos}
 use lib.ListN.{getD, length}
@@ -20,5 +20,5 @@ pub returns : need.returns
 returns c =
     let xs = c .args .self .now .words .now in
     let i = given-in (held (length xs)) (c .args .w) (c .args .w) _ (c .in-Continue-at .ensures tt) in
-    let f : Word (getD xs (c .in-Continue-at .at) (pos 0)) = search needs in
-    ap Ok (word-own _ f ∙ ap (λ k. word (getD xs k (pos 0))) (i .1)) ∙ sym (read-tab _ _ _ (i .0))
+    let f : Word (c .word-at .result) = search needs in
+    ap Ok (word-own _ f ∙ ap word (c .word-at .ensures) ∙ ap (λ k. word (getD xs k (pos 0))) (i .1)) ∙ sym (read-tab _ _ _ (i .0))

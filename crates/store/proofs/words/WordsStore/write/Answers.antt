@@ -1,4 +1,4 @@
-use mathlib.Core.Path.{_≡_, refl, sym, ap, _∙_}
+use mathlib.Core.Path.{refl, sym, ap, _∙_}
 use lib.ListN.{length, set}
 use mir.Syntax.{w32}
 use mir.Val.{toZ, ofZ}
@@ -26,7 +26,8 @@ returns c =
     record {
       answer = sym (tab-in _ _ _ _ (i .0));
       after =
-          ap (λ k. wordsBook (set xs k (toZ w32 (ofZ w32 (c .args .v))))) (i .1)
+          ap wordsBook (c .put-word .ensures)
+          ∙ ap (λ k. wordsBook (set xs k (toZ w32 (ofZ w32 (c .args .v))))) (i .1)
           ∙ ap (λ x. wordsBook (set xs (c .args .w) x)) (toZ-ofZ w32 _ (c .fits .v))
           ∙ words-set xs (c .args .w) (c .args .v) (c .fits .v) (i .0);
       lends = refl;

@@ -1,6 +1,6 @@
 use borrow.Author.Needs.{needs}
 use Rattle.std.proofs.shelf.Signed.{wraps}
-use Rattle.store.proofs.moves.move_to.Needs as need
+use Rattle.store.proofs.arithmetic.difference.Needs as need
 
 pub returns : need.returns
 returns c = search (needs, wraps)
