@@ -3,6 +3,8 @@
 
 mod prices;
 mod refusals;
+mod scripts;
+mod whatif;
 
 use prices::Instrument;
 use prices::move_to;
@@ -22,9 +24,17 @@ use store::Words;
 use store::WordsStore;
 use store::add_to_word;
 use store::copy_book;
+use whatif::checks;
+use whatif::house;
+use whatif::rehearsal;
+use whatif::second_seat;
+use whatif::try_script;
 
 // A card of 81 words, four bytes each: a book with no record.
 const CARD: usize = 324;
+
+// A card of 105 words: a book with three records.
+const TRADING_CARD: usize = 420;
 
 // The first reference mark, which no layer moves.
 const REFERENCE: u32 = 65;
@@ -138,6 +148,29 @@ fn wrong_card(rt: &LibcRuntime, bytes: &mut [u8]) -> io::Result<()> {
     )
 }
 
+// A script is checked, put on and taken off again, and sent to a second seat.
+fn what_if(rt: &LibcRuntime, bytes: &mut [u8], words: &mut [i32]) -> io::Result<()> {
+    checks(rt)?;
+    let mut card = Bytes::new(bytes);
+    house(&mut card);
+    let card = try_script(rt, card)?;
+    report(
+        rt,
+        "The card's own bund",
+        card.read(Instrument::Bund.mark()),
+    )?;
+    second_seat(rt, card, Words::new(words))
+}
+
+// The same calls on a card of bytes and on words.
+fn both_kinds(rt: &LibcRuntime, bytes: &mut [u8], words: &mut [i32]) -> io::Result<()> {
+    let mut card = Bytes::new(bytes);
+    house(&mut card);
+    let mut book = Words::new(words);
+    house(&mut book);
+    rehearsal(rt, card, book)
+}
+
 fn main(rt: LibcRuntime) -> io::Result<()> {
     let mut bytes = vec![in rt.alloc(); 0u8; CARD]?;
     day(&rt, Bytes::new(bytes.as_mut_slice()))?;
@@ -145,5 +178,11 @@ fn main(rt: LibcRuntime) -> io::Result<()> {
         println!(rt, "The bytes of bund on the card: {bund:?}")?;
     }
     bytes.push(0)?;
-    wrong_card(&rt, bytes.as_mut_slice())
+    wrong_card(&rt, bytes.as_mut_slice())?;
+    let mut card = vec![in rt.alloc(); 0u8; TRADING_CARD]?;
+    let mut words = [0i32; 105];
+    what_if(&rt, card.as_mut_slice(), &mut words)?;
+    let mut card = vec![in rt.alloc(); 0u8; TRADING_CARD]?;
+    let mut words = [0i32; 105];
+    both_kinds(&rt, card.as_mut_slice(), &mut words)
 }
