@@ -37,9 +37,20 @@ pub fn on_tables<R: BufRead, W: Write>(
             let digest = lines_digest(desk.lines.as_slice());
             writeln!(desk.out, "lines {count} {digest:016x}")?;
         }
-        _ => return Err(desk.stop("a command for the present state")),
+        _ => return Err(desk.stop(needed(command))),
     }
     Ok(())
+}
+
+// What a command needs that the present state lacks.
+fn needed(command: Command) -> &'static str {
+    match command {
+        Command::Session => "the end of the session that runs",
+        Command::Book => "a store",
+        Command::Close | Command::Load | Command::Apply(_, _) | Command::Back | Command::Look(_) =>
+            { "an open screen" }
+        _ => "a store that no screen has",
+    }
 }
 
 fn empty<R: BufRead, W: Write>(desk: &mut Desk<R, W>) {

@@ -1,6 +1,7 @@
 // The words of a line of text, parted by single blanks.
 
 use rules::Place;
+use session::place_of;
 use std::str::FromStr;
 
 // What is left to read; none after the last word.
@@ -58,10 +59,7 @@ impl<'a> Text<'a> {
         match self.next() {
             None => Err(expected),
             Some("-") => Ok(Place::None),
-            Some(word) => match word.split_at_checked(1) {
-                None => Err(expected),
-                Some((sort, index)) => sorted(sort, read(Some(index), expected)?),
-            },
+            Some(word) => lettered(word).ok_or(expected),
         }
     }
 }
@@ -83,14 +81,11 @@ where
     }
 }
 
-// The place of a sort with an index.
-fn sorted(sort: &str, index: u8) -> Result<Place, &'static str> {
-    match sort {
-        "m" => Ok(Place::M(index)),
-        "r" => Ok(Place::R(index)),
-        "n" => Ok(Place::N(index)),
-        "f" => Ok(Place::F(index)),
-        "v" => Ok(Place::V(index)),
-        _ => Err("a place of sort m, r, n, f or v"),
+// The place that a word writes by a letter and an index.
+fn lettered(word: &str) -> Option<Place> {
+    let (letter, digits) = word.split_at_checked(1)?;
+    match digits.parse::<u8>() {
+        Ok(index) => place_of(*letter.as_bytes().first()?, index),
+        Err(_) => None,
     }
 }
