@@ -1,27 +1,23 @@
 -- What the law of steps asks of a state follows from what the states of a run keep.
-use mathlib.Core.Path.{_≡_, refl, ap, ap₂, sym, _∙_, subst}
+use mathlib.Core.Path.{_≡_, refl, ap, sym, _∙_, subst}
 use mathlib.Core.Bool.{Bool, true, false, not, cond, _&&_, _||_}
-use mathlib.Core.List.{List, [], _∷_, _++_}
+use mathlib.Core.List.{List, [], _∷_}
 use mathlib.Core.Logic.{_⊎_, inl, inr, ⊎-elim}
-use Prim.Native.Nat.{ℕ, zero, suc, _+_, _-_, _*_, _/_, _%_, _≤_, _<_}
+use Prim.Native.Nat.{ℕ, zero, suc, _+_, _-_, _*_, _%_, _≤_, _<_}
 use native.Mathlib.Omega.{arith}
 use lib.Dec.{eqb, leb, ltb}
-use lib.IntN.{ℤ, pos}
-use lib.ListN.{length, getD}
-use mir.Syntax.{w32}
-use mir.Val.{SFits}
+use lib.IntN.{ℤ}
+use lib.ListN.{length}
 use Rattle.std.specs.shelf.Lists.{All}
-use Rattle.std.specs.declared.result.Result.{Result}
 use Rattle.std.specs.declared.result.Result.the-variants.{Ok, Err}
 use Rattle.std.proofs.shelf.Lists.{getD-past}
-use Rattle.std.proofs.shelf.Tests.{and-parts, and-from, or-cases, not-true, ltb-true, leb-true, eqb-true, le-leb, cond-true, cases-lt, false≢true, both-ways}
-use Rattle.rules.specs.Book.{records, recordAt, named, fits, allWords, isBook}
-use Rattle.rules.specs.Script.{Script, lineAt, isNone, alike, turnedKind, termsOf, bracket, partner, whereIs}
-use Rattle.rules.specs.Check.{known, sort, reaches, names, formOf, form, among, within, termsForm, postfix, expressionForm, wellFilled, wellFormed, apart, depth, checked}
+use Rattle.std.proofs.shelf.Tests.{and-parts, or-cases, not-true, ltb-true, leb-true, eqb-true, le-leb, cond-true, cases-lt, false≢true, both-ways}
+use Rattle.rules.specs.Book.{records, recordAt, fits, allWords, isBook}
+use Rattle.rules.specs.Script.{Script, lineAt, isNone, alike, turnedKind, termsOf, bracket, whereIs}
+use Rattle.rules.specs.Check.{known, sort, reaches, names, formOf, form, among, within, termsForm, expressionForm, apart, depth, checked}
 use Rattle.rules.specs.Step.{State, inRecord, base, past, met, turnOf, kindMet, entry, found, find, read, rules, step, flipped}
-use Rattle.rules.specs.declared.Frame.{Frame}
 use Rattle.rules.specs.declared.Spot.{Spot}
-use Rattle.rules.specs.declared.Spot.the-variants.{InBook, InLocals}
+use Rattle.rules.specs.declared.Spot.the-variants.{InBook}
 use Rattle.rules.specs.declared.Line.{Line}
 use Rattle.rules.specs.declared.Place.{Place}
 use Rattle.rules.specs.declared.Place.the-variants.{None, M, R, N, F, V}
@@ -30,17 +26,17 @@ use Rattle.laws.proofs.Back.{At}
 use Rattle.laws.proofs.Lens.{Within}
 use Rattle.laws.proofs.Places.{Sound, terms-sound, apart as places-apart}
 use Rattle.laws.proofs.Turning.{Each, each-at, turned-twice}
-use Rattle.laws.proofs.Nest.{Paired, other-line, at-open, at-close}
+use Rattle.laws.proofs.Nest.{other-line, at-open, at-close}
 use Rattle.laws.proofs.Stack.{stackAt, Found}
 use Rattle.laws.proofs.Law.{Changes, Pairs, Opens, Closes, Refers, Two, Distinct, Calls, Returns, asks, Asks, same-kind, steps-back}
 use Rattle.laws.proofs.Inside.{In, plain-stack}
 use Rattle.laws.proofs.Methods.{block, Method, method-of, calls-method}
 use Rattle.laws.proofs.Methods as methods
 use Rattle.laws.proofs.Values.{word-fits}
-use Rattle.laws.proofs.Fit.{cur, Link, Chain, Fit, present-in, read-word, kind-of, opens-depth, closes-depth, turn-at, turn-in}
+use Rattle.laws.proofs.Fit.{cur, Chain, Fit, present-in, read-word, kind-of, opens-depth, closes-depth, turn-at, turn-in}
 use Rattle.laws.proofs.Keep.{at-return, bracket-met}
 use Rattle.rules.specs.declared.Refusal.the-variants.{Unknown}
-use Rattle.reversible.specs.Ledger.{Verdict, accepted, rejected}
+use Rattle.reversible.specs.Ledger.{accepted}
 
 pub sized : (b : List ℤ) → isBook b ≡ true → length b ≡ 81 + 8 * records b
 sized b h =

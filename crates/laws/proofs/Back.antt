@@ -1,25 +1,23 @@
 -- A step taken, and then taken with the state turned round, gives the first state turned round.
-use mathlib.Core.Path.{_≡_, refl, ap, ap₂, sym, _∙_, subst}
-use mathlib.Core.Bool.{Bool, true, false, not, cond}
-use mathlib.Core.List.{List, [], _∷_}
-use Prim.Native.Nat.{ℕ, zero, suc, _+_, _-_, _≤_, _<_}
-use lib.IntN.{ℤ, pos}
-use lib.ListN.{length, getD, set}
+use mathlib.Core.Path.{_≡_, refl, ap, ap₂, sym, _∙_}
+use mathlib.Core.Bool.{true, false, not}
+use mathlib.Core.List.{List, []}
+use Prim.Native.Nat.{ℕ, _-_}
+use lib.IntN.{ℤ}
 use Rattle.std.specs.shelf.Lists.{All}
 use Rattle.std.specs.declared.result.Result.{Result}
-use Rattle.std.specs.declared.result.Result.the-variants.{Ok, Err}
-use Rattle.std.proofs.shelf.Lists.{set-set, set-getD, getD-set-same, getD-set-other, set-past}
+use Rattle.std.specs.declared.result.Result.the-variants.{Ok}
 use Rattle.rules.specs.Answer.{_>>=_, need}
-use Rattle.rules.specs.Word.{eqZ, holds}
+use Rattle.rules.specs.Word.{holds}
 use Rattle.rules.specs.Script.{Script, partner, lineAt, termsOf}
 use Rattle.rules.specs.Check.{known, names}
-use Rattle.rules.specs.Step.{find, read, write, see, changed, withBook, withLocals, State, value, go, goTo, past, asserted, branched, flipped, line, mate}
+use Rattle.rules.specs.Step.{find, read, write, see, changed, withBook, withLocals, State, value, go, goTo, past, asserted, branched, flipped, line}
 use Rattle.rules.specs.declared.Spot.{Spot}
 use Rattle.rules.specs.declared.Spot.the-variants.{InBook, InLocals}
 use Rattle.rules.specs.declared.Place.{Place}
 use Rattle.rules.specs.declared.Term.{Term}
 use Rattle.laws.proofs.Places.{Sound, worked-same, unnamed, put-back}
-use Rattle.laws.proofs.Chains.{ok-err, ok-same, passed, held, chose, not-true}
+use Rattle.laws.proofs.Chains.{ok-same, passed, held, chose, not-true}
 use Rattle.rules.specs.declared.Refusal.{Refusal}
 
 -- the state stands at line l: past it in the other direction

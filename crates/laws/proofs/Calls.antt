@@ -1,20 +1,18 @@
 -- A call and the return from it undo one another.
-use mathlib.Core.Path.{_≡_, refl, ap, ap₂, sym, _∙_, subst}
+use mathlib.Core.Path.{_≡_, refl, ap, ap₂, sym, _∙_}
 use mathlib.Core.Bool.{Bool, true, false, not, cond}
-use mathlib.Core.List.{List, [], _∷_}
-use Prim.Native.Nat.{ℕ, zero, suc, _+_, _-_, _≤_, _<_}
-use native.Mathlib.Omega.{arith}
-use lib.Dec.{eqb, ltb}
-use lib.IntN.{ℤ, pos}
-use lib.ListN.{length, getD}
+use mathlib.Core.List.{List, _∷_}
+use Prim.Native.Nat.{ℕ, _-_, _<_}
+use lib.Dec.{eqb}
+use lib.IntN.{pos}
+use lib.ListN.{length}
 use Rattle.std.specs.declared.result.Result.{Result}
-use Rattle.std.specs.declared.result.Result.the-variants.{Ok, Err}
-use Rattle.std.proofs.shelf.Tests.{ltb-true, lt-ltb, cond-true, cond-false}
+use Rattle.std.specs.declared.result.Result.the-variants.{Ok}
+use Rattle.std.proofs.shelf.Tests.{ltb-true, lt-ltb, cond-true}
 use Rattle.rules.specs.Answer.{_>>=_, need}
-use Rattle.rules.specs.Word.{eqZ}
 use Rattle.rules.specs.Book.{named}
 use Rattle.rules.specs.Script.{Script, lineAt, isNone}
-use Rattle.rules.specs.Step.{State, found, find, read, base, past, goTo, entry, flipped, callee, holding, across, caller, entered, left, returned}
+use Rattle.rules.specs.Step.{State, find, read, past, goTo, entry, flipped, callee, holding, across, caller, entered, left, returned}
 use Rattle.rules.specs.declared.Spot.{Spot}
 use Rattle.rules.specs.declared.Frame.{Frame}
 use Rattle.rules.specs.declared.Place.{Place}

@@ -1,16 +1,15 @@
 -- Records that are clear, and three words that are changed and put back.
-use mathlib.Core.Path.{_≡_, refl, ap, sym, _∙_, subst}
-use mathlib.Core.Bool.{Bool, true, false, not, cond, _&&_}
+use mathlib.Core.Path.{_≡_, refl, ap, sym, _∙_}
+use mathlib.Core.Bool.{true, false}
 use mathlib.Core.List.{List, [], _∷_}
-use Prim.Native.Nat.{ℕ, zero, suc, _+_, _-_, _*_, _/_, _≤_, _<_}
+use Prim.Native.Nat.{ℕ, zero, suc, _+_, _-_, _<_}
 use native.Mathlib.Omega.{arith}
-use lib.Dec.{eqb, leb, ltb}
 use lib.IntN.{ℤ, pos, negsuc}
-use lib.ListN.{length, getD, set, take, drop, length-set}
-use Rattle.std.proofs.shelf.Lists.{set-set, set-comm, set-getD, getD-set-same, getD-set-other, getD-take, getD-drop, getD-past, ext-getD, length-take}
-use Rattle.std.proofs.shelf.Tests.{and-parts, and-from, eqb-true, leb-true, eq-eqb, cond-both, cases-lt, false≢true}
+use lib.ListN.{length, getD, set, take, drop}
+use Rattle.std.proofs.shelf.Lists.{set-set, set-comm, set-getD, getD-take, getD-drop, length-take}
+use Rattle.std.proofs.shelf.Tests.{and-parts, and-from, eqb-true, eq-eqb, false≢true}
 use Rattle.rules.specs.Word.{eqZ}
-use Rattle.rules.specs.Book.{records, recordAt, named, allZero, clear}
+use Rattle.rules.specs.Book.{recordAt, named, allZero, clear}
 
 pub eqZ-true : (a b : ℤ) → eqZ a b ≡ true → a ≡ b
 eqZ-true (pos a) (pos b) e = ap pos (eqb-true a b e)

@@ -1,23 +1,19 @@
 -- What every state of a run of an allowed script keeps.
-use mathlib.Core.Path.{_≡_, refl, ap, ap₂, sym, _∙_, subst}
-use mathlib.Core.Bool.{Bool, true, false, not, cond, _&&_, _||_}
-use mathlib.Core.List.{List, [], _∷_, _++_}
-use mathlib.Core.Logic.{_⊎_, inl, inr, ⊎-elim}
-use Prim.Native.Nat.{ℕ, zero, suc, _+_, _-_, _/_, _≤_, _<_}
+use mathlib.Core.Path.{_≡_, refl, ap, sym, _∙_, subst}
+use mathlib.Core.Bool.{Bool, true, false, not, cond}
+use mathlib.Core.List.{List, [], _∷_}
+use mathlib.Core.Logic.{_⊎_}
+use Prim.Native.Nat.{ℕ, suc, _+_, _-_, _/_, _≤_, _<_}
 use native.Mathlib.Omega.{arith}
-use lib.Dec.{eqb, leb, ltb}
 use lib.IntN.{ℤ, pos}
-use lib.ListN.{length, getD, set, take, length-set}
+use lib.ListN.{length, length-set}
 use Rattle.std.specs.shelf.Lists.{All}
-use Rattle.std.specs.declared.result.Result.{Result}
-use Rattle.std.specs.declared.result.Result.the-variants.{Ok, Err}
+use Rattle.std.specs.declared.result.Result.the-variants.{Ok}
 use Rattle.std.proofs.shelf.Tests.{and-parts, and-from}
-use Rattle.rules.specs.Answer.{_>>=_}
-use Rattle.rules.specs.Word.{word}
 use Rattle.rules.specs.Book.{records, fits, allWords, isBook}
-use Rattle.rules.specs.Script.{Script, lineAt, isNone, turnedKind, termsOf, bracket, partner}
+use Rattle.rules.specs.Script.{Script, lineAt, isNone, turnedKind, termsOf}
 use Rattle.rules.specs.Check.{depth, checked}
-use Rattle.rules.specs.Step.{State, base, past, met, turnOf, across, find, read, see, value, putBook, putLocals}
+use Rattle.rules.specs.Step.{State, base, past, met, turnOf, across, read, see, value, putBook, putLocals}
 use Rattle.rules.specs.declared.Frame.{Frame}
 use Rattle.rules.specs.declared.Spot.{Spot}
 use Rattle.rules.specs.declared.Spot.the-variants.{InBook, InLocals}
@@ -27,10 +23,10 @@ use Rattle.laws.proofs.Chains.{passed, ok-same}
 use Rattle.laws.proofs.Back.{At}
 use Rattle.laws.proofs.Turning.{turned-twice}
 use Rattle.laws.proofs.Stack.{stackAt}
-use Rattle.laws.proofs.Inside.{In, in-after, in-before, depth-same, depth-local, depth-delocal, stack-next, across-pair, in-range}
+use Rattle.laws.proofs.Inside.{In, in-after, in-before, depth-same, depth-local, depth-delocal, stack-next, in-range}
 use Rattle.laws.proofs.Methods.{block, found}
-use Rattle.laws.proofs.Values.{IsWord, words-from, words-to, all-at, all-set, worked-word, word-is, zero-word}
-use Rattle.reversible.specs.Ledger.{Verdict, accepted, rejected}
+use Rattle.laws.proofs.Values.{IsWord, words-from, words-to, all-at, all-set, worked-word, zero-word}
+use Rattle.reversible.specs.Ledger.{accepted}
 
 -- the direction, by the frames
 abbrev pub way : Script → Bool → List Frame → Bool

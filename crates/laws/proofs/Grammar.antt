@@ -3,19 +3,19 @@ use mathlib.Core.Path.{_≡_, refl, ap, ap₂, sym, _∙_, subst}
 use mathlib.Core.Bool.{Bool, true, false, not, cond, _&&_, _||_}
 use mathlib.Core.List.{List, [], _∷_, _++_, tail}
 use mathlib.Core.Logic.{_⊎_, inl, inr, ⊎-elim}
-use Prim.Native.Nat.{ℕ, zero, suc, _+_, _-_, _≤_, _<_}
+use Prim.Native.Nat.{ℕ, suc, _+_, _-_, _<_}
 use native.Mathlib.Omega.{arith}
-use lib.Dec.{eqb, leb, ltb}
+use lib.Dec.{eqb, leb}
 use lib.ListN.{length}
 use Rattle.std.specs.declared.result.Result.{Result}
-use Rattle.std.specs.declared.result.Result.the-variants.{Ok, Err}
+use Rattle.std.specs.declared.result.Result.the-variants.{Ok}
 use Rattle.std.proofs.shelf.Lists.{append-assoc, append-nil, length-append, getD-at}
 use Rattle.std.proofs.shelf.Tests.{and-parts, and-from, or-left, or-right, eqb-true, eq-eqb, ne-eqb, not-from-false, not-from-true, leb-true, le-leb, lt-ltb, ltb-true, cond-true, cases-eq, false≢true}
 use Rattle.reversible.specs.Ledger.{Verdict, accepted, rejected}
 use Rattle.rules.specs.Answer.{_>>=_, need, either}
 use Rattle.rules.specs.Script.{Script, noLine, lineAt, bracket, opens, closes, whereIs, hasMethod}
-use Rattle.rules.specs.Check.{wellFilled, nests, wellFormed, wellFormedAt, apart, within, after, depth, judged, calls, walked, small, checked}
-use Rattle.rules.specs.Allowed.{Fits, Joined, Body, nothing, plain, pair, scope, Methods, none, method, Begins, Calls, Allowed}
+use Rattle.rules.specs.Check.{nests, wellFormedAt, within, after, depth, judged, calls, walked, small, checked}
+use Rattle.rules.specs.Allowed.{Fits, Joined, Body, nothing, plain, pair, scope, Methods, none, method, Calls, Allowed}
 use Rattle.rules.specs.declared.Line.{Line}
 use Rattle.rules.specs.declared.Term.{Term}
 use Rattle.rules.specs.declared.Refusal.{Refusal}

@@ -1,21 +1,21 @@
 -- Where a position of an allowed script lies: the method that it is inside of, and the pairs open there.
 use mathlib.Core.Path.{_≡_, refl, ap, ap₂, sym, _∙_, subst}
-use mathlib.Core.Bool.{Bool, true, false, not, cond, _&&_, _||_}
-use mathlib.Core.List.{List, [], _∷_, _++_, tail}
+use mathlib.Core.Bool.{Bool, true, false, not, cond, _&&_}
+use mathlib.Core.List.{List, [], _∷_}
 use mathlib.Core.Logic.{_⊎_, inl, inr, ⊎-elim}
-use Prim.Native.Nat.{ℕ, zero, suc, _+_, _-_, _≤_, _<_}
+use Prim.Native.Nat.{ℕ, suc, _+_, _-_, _≤_, _<_}
 use native.Mathlib.Omega.{arith}
-use lib.Dec.{eqb, leb, ltb}
-use lib.ListN.{length, getD, take}
+use lib.Dec.{eqb}
+use lib.ListN.{length, take}
 use Rattle.std.proofs.shelf.Lists.{take-more, take-all}
-use Rattle.std.proofs.shelf.Tests.{and-parts, not-true, eqb-true, eq-eqb, ne-eqb, cond-true, cond-false, false≢true, cases-eq, or-cases}
-use Rattle.rules.specs.Script.{Script, noLine, lineAt, opens, closes, bracket, partner, turnedKind}
-use Rattle.rules.specs.Check.{nests, after, depth, checked}
-use Rattle.rules.specs.Step.{past, met}
+use Rattle.std.proofs.shelf.Tests.{and-parts, eqb-true, ne-eqb, false≢true, cases-eq}
+use Rattle.rules.specs.Script.{noLine, lineAt, opens, closes, bracket, partner}
+use Rattle.rules.specs.Check.{nests, after, depth}
+use Rattle.rules.specs.Step.{past}
 use Rattle.rules.specs.declared.Line.{Line}
 use Rattle.laws.proofs.Accepted.{closing-kind}
-use Rattle.laws.proofs.Nest.{Block, Paired, Has, openAt, closeAt, pairs, at-open, at-close, partner-open, partner-close, closes-turned, unbracketed, paired-length}
-use Rattle.laws.proofs.Stack.{stack, stackAt, stack-append, stack-block, after-opener, after-closer, after-plain, below, stack-open, stack-opened, stack-close, Found}
+use Rattle.laws.proofs.Nest.{Block, Paired, Has, openAt, closeAt, pairs, at-close, partner-open, partner-close, closes-turned, unbracketed, paired-length}
+use Rattle.laws.proofs.Stack.{stack, stackAt, stack-append, stack-block, after-closer, after-plain, below, stack-open, stack-opened, stack-close}
 
 -- the openers open at a position, the last first, begin with the method's
 pub data In (q : ℕ) : List Line → Type 0 where

@@ -1,44 +1,41 @@
 -- Every step of an allowed script keeps what its states keep.
-use mathlib.Core.Path.{_≡_, refl, ap, ap₂, sym, _∙_, subst}
-use mathlib.Core.Bool.{Bool, true, false, not, cond, _&&_, _||_}
+use mathlib.Core.Path.{_≡_, refl, ap, sym, _∙_, subst}
+use mathlib.Core.Bool.{Bool, true, false, not, cond}
 use mathlib.Core.List.{List, [], _∷_, _++_}
 use mathlib.Core.Logic.{_⊎_, inl, inr, ⊎-elim}
-use Prim.Native.Nat.{ℕ, zero, suc, _+_, _-_, _/_, _≤_, _<_}
+use Prim.Native.Nat.{ℕ, suc, _+_, _-_, _≤_, _<_}
 use native.Mathlib.Omega.{arith}
-use lib.Dec.{eqb, leb, ltb}
+use lib.Dec.{eqb, ltb}
 use lib.Bits.{bitXor}
 use lib.IntN.{ℤ, pos, negsuc, _+ℤ_, _-ℤ_}
 use lib.ListN.{length, getD, set, take, length-set}
 use Rattle.std.specs.shelf.Lists.{All}
-use Rattle.std.specs.declared.result.Result.{Result}
 use Rattle.std.specs.declared.result.Result.the-variants.{Ok, Err}
 use Rattle.std.proofs.shelf.Elements.{all-take}
 use Rattle.std.proofs.shelf.Lists.{length-push, length-take-le, getD-past}
-use Rattle.std.proofs.shelf.Tests.{and-parts, and-from, ltb-true, cases-lt}
-use Rattle.rules.specs.Answer.{_>>=_}
+use Rattle.std.proofs.shelf.Tests.{and-parts, ltb-true, cases-lt}
 use Rattle.rules.specs.Word.{word, holds, onBits}
-use Rattle.rules.specs.Book.{records, recordAt, named, fits, allWords, isBook}
-use Rattle.rules.specs.Script.{Script, lineAt, isNone, turnedKind, termsOf, bracket, partner, whereIs}
+use Rattle.rules.specs.Book.{records, recordAt, named}
+use Rattle.rules.specs.Script.{Script, lineAt, isNone, bracket, partner, whereIs}
 use Rattle.rules.specs.Check.{depth, checked}
-use Rattle.rules.specs.Step.{State, base, past, met, turnOf, kindMet, across, entry, find, read, see, value, putBook, putLocals, callee, caller, rules, rule, step, changed, branched, asserted, opened, closed, allocated, freed, copied, uncopied, swapped, entered, left, returned}
+use Rattle.rules.specs.Step.{State, base, past, met, turnOf, kindMet, across, entry, read, putBook, putLocals, callee, rules, rule, step, changed, branched, asserted, opened, closed, allocated, freed, copied, uncopied, swapped, entered, returned}
 use Rattle.rules.specs.declared.Frame.{Frame}
 use Rattle.rules.specs.declared.Spot.{Spot}
-use Rattle.rules.specs.declared.Spot.the-variants.{InBook, InLocals}
 use Rattle.rules.specs.declared.Line.{Line}
 use Rattle.rules.specs.declared.Place.{Place}
 use Rattle.laws.proofs.Chains.{passed, held, chose, ok-same, ok-err}
 use Rattle.laws.proofs.Back.{At}
 use Rattle.laws.proofs.Cells.{named-is}
-use Rattle.laws.proofs.Turning.{Each, each-at, turned-twice}
+use Rattle.laws.proofs.Turning.{Each, each-at}
 use Rattle.laws.proofs.Law.{same-kind}
 use Rattle.laws.proofs.Nest.{bracket-turned}
 use Rattle.laws.proofs.Stack.{stackAt}
 use Rattle.laws.proofs.Inside.{In, at-end, begun, stack-next, across-pair, partner-in, plain-stack}
-use Rattle.laws.proofs.Methods.{block, found, Method, method-of, calls-method, begin-is, end-is, entered-in}
+use Rattle.laws.proofs.Methods.{block, found, method-of, calls-method, begin-is, end-is, entered-in}
 use Rattle.laws.proofs.Values.{IsWord, all-at, all-set, all-join, word-is, xor-word, zero-word}
-use Rattle.laws.proofs.Fit.{cur, way, Link, Chain, Fit, keep, book-words, read-word, value-word, put-book-length, put-locals-length, put-book-words, put-locals-words, kind-of, pass, pass-depth, opens-depth, closes-depth, past-high, turn-at, turn-in}
+use Rattle.laws.proofs.Fit.{cur, way, Chain, Fit, keep, book-words, read-word, value-word, put-book-length, put-locals-length, put-book-words, put-locals-words, kind-of, pass, pass-depth, opens-depth, closes-depth, past-high, turn-at, turn-in}
 use Rattle.rules.specs.declared.Refusal.the-variants.{Unknown}
-use Rattle.reversible.specs.Ledger.{Verdict, accepted, rejected}
+use Rattle.reversible.specs.Ledger.{accepted}
 
 -- met as a line that opens or closes, it is one
 pub bracket-met : (fw : Bool) (kind k : ℕ) → met fw kind ≡ k → bracket k ≡ true → bracket kind ≡ true

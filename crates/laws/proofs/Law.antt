@@ -1,10 +1,10 @@
 -- The law of steps: a step made, and one more with the direction turned round, lead back to the state turned round.
 -- What it asks of a state is listed kind by kind in the order of the rules.
-use mathlib.Core.Path.{_≡_, refl, ap, ap₂, sym, _∙_, subst}
+use mathlib.Core.Path.{_≡_, refl, ap, ap₂, sym, _∙_}
 use mathlib.Core.Bool.{Bool, true, false, not, cond}
 use mathlib.Core.List.{List, [], _∷_}
-use mathlib.Core.Logic.{_⊎_, inl, inr, ⊎-elim}
-use Prim.Native.Nat.{ℕ, zero, suc, _+_, _-_, _≤_, _<_}
+use mathlib.Core.Logic.{_⊎_, ⊎-elim}
+use Prim.Native.Nat.{ℕ, suc, _+_, _-_, _≤_, _<_}
 use native.Mathlib.Omega.{arith}
 use lib.IntN.{ℤ, pos, _+ℤ_, _-ℤ_}
 use lib.Bits.{bitXor}
@@ -20,7 +20,7 @@ use Rattle.rules.specs.Word.{word, onBits}
 use Rattle.rules.specs.Book.{named}
 use Rattle.rules.specs.Script.{Script, lineAt, termsOf, partner, whereIs, isNone, turnedKind}
 use Rattle.rules.specs.Check.{known, names}
-use Rattle.rules.specs.Step.{State, find, read, base, past, entry, turnOf, met, kindMet, rules, rule, step, flipped, across, changed, branched, asserted, opened, closed, allocated, freed, copied, uncopied, swapped, entered, returned}
+use Rattle.rules.specs.Step.{State, find, read, base, entry, turnOf, met, kindMet, rules, rule, step, flipped, across, opened, entered, returned}
 use Rattle.rules.specs.declared.Spot.{Spot}
 use Rattle.rules.specs.declared.Frame.{Frame}
 use Rattle.rules.specs.declared.Spot.the-variants.{InBook}

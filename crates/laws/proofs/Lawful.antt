@@ -1,9 +1,8 @@
 -- The machine of an allowed script keeps the laws of one step.
 use mathlib.Core.Path.{_≡_, refl, ap, ap₂, sym, _∙_, subst}
-use mathlib.Core.Bool.{Bool, true, false, not, cond, _&&_, _||_}
+use mathlib.Core.Bool.{Bool, true, false, not, cond}
 use mathlib.Core.List.{List, [], _∷_}
-use mathlib.Core.Logic.{_⊎_, inl, inr, ⊎-elim}
-use Prim.Native.Nat.{ℕ, zero, suc, _+_, _-_, _≤_, _<_}
+use Prim.Native.Nat.{ℕ, _-_}
 use native.Mathlib.Omega.{arith}
 use lib.Dec.{T, eqb}
 use lib.IntN.{ℤ}
@@ -12,12 +11,12 @@ use Rattle.std.specs.declared.result.Result.{Result}
 use Rattle.std.specs.declared.result.Result.the-variants.{Ok, Err}
 use Rattle.std.proofs.shelf.Lists.{nil-from-length}
 use Rattle.std.proofs.shelf.Tests.{and-parts, and-from, eqb-true, eq-eqb}
-use Rattle.reversible.specs.Machine.{Machine, Lawful, Dir, fwd, bwd, other, Next, finish, go, stop}
+use Rattle.reversible.specs.Machine.{Lawful, Dir, fwd, bwd, other, Next, finish, go, stop}
 use Rattle.rules.specs.Answer.{either}
 use Rattle.rules.specs.Book.{isBook, records}
 use Rattle.rules.specs.Script.{Script, lineAt, hasMethod, whereIs, turnedKind}
 use Rattle.rules.specs.Check.{checked, depth}
-use Rattle.rules.specs.Step.{State, step, finished, flipped, turnOf, kindMet, met, past, entry, across, base}
+use Rattle.rules.specs.Step.{State, step, finished, flipped, turnOf, kindMet, entry, across, base}
 use Rattle.rules.specs.declared.Frame.{Frame}
 use Rattle.rules.specs.Run.{ahead, start, next, machine}
 use Rattle.laws.proofs.Nest.{at-open, at-close}
@@ -30,7 +29,7 @@ use Rattle.laws.proofs.Fit.{cur, way, Chain, Fit, turn-at, turn-in}
 use Rattle.laws.proofs.Keep.{at-return, step-kept}
 use Rattle.laws.proofs.Asked.{step-back}
 use Rattle.rules.specs.declared.Refusal.{Refusal}
-use Rattle.reversible.specs.Ledger.{Verdict, accepted, rejected}
+use Rattle.reversible.specs.Ledger.{accepted}
 
 pub is-true : (b : Bool) → T b → b ≡ true
 is-true true t = refl

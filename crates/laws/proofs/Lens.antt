@@ -1,12 +1,11 @@
 -- Reading and writing spots of a state.
 use mathlib.Core.Path.{_≡_, refl, ap, ap₂, sym, _∙_}
 use mathlib.Core.Logic.{_⊎_, inl, inr, ⊎-elim}
-use mathlib.Core.List.{List, [], _∷_}
 use Prim.Native.Nat.{ℕ, _<_}
 use native.Mathlib.Omega.{arith}
 use native.Mathlib.Decide.{ℕ-discrete}
 use lib.IntN.{ℤ, pos}
-use lib.ListN.{length, getD, set, length-set}
+use lib.ListN.{length, length-set}
 use Rattle.std.proofs.shelf.Lists.{set-set, set-comm, set-getD, getD-set-same, getD-set-other}
 use Rattle.rules.specs.Step.{State, read, write, withBook, withLocals}
 use Rattle.rules.specs.declared.Spot.{Spot}

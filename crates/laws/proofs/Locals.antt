@@ -1,6 +1,6 @@
 -- local and delocal undo one another.
-use mathlib.Core.Path.{_≡_, refl, ap, ap₂, sym, _∙_, subst}
-use mathlib.Core.Bool.{Bool, true, false, cond}
+use mathlib.Core.Path.{_≡_, refl, ap, ap₂, sym, _∙_}
+use mathlib.Core.Bool.{true}
 use mathlib.Core.List.{List, [], _∷_, _++_}
 use Prim.Native.Nat.{ℕ, zero, suc, _+_, _-_, _≤_, _<_}
 use native.Mathlib.Omega.{arith}
@@ -9,11 +9,10 @@ use lib.IntN.{ℤ, pos}
 use lib.ListN.{length, getD, take}
 use Rattle.std.specs.shelf.Lists.{All}
 use Rattle.std.specs.declared.result.Result.{Result}
-use Rattle.std.specs.declared.result.Result.the-variants.{Ok, Err}
+use Rattle.std.specs.declared.result.Result.the-variants.{Ok}
 use Rattle.std.proofs.shelf.Lists.{length-push, getD-push, getD-append-left, getD-take, take-at, take-more, take-all, length-take-le}
 use Rattle.std.proofs.shelf.Tests.{and-parts, ltb-true, lt-ltb}
 use Rattle.rules.specs.Answer.{_>>=_, need}
-use Rattle.rules.specs.Word.{eqZ}
 use Rattle.rules.specs.Script.{Script, lineAt, termsOf}
 use Rattle.rules.specs.Check.{known, reaches}
 use Rattle.rules.specs.Step.{State, inRecord, read, value, see, base, withLocals, go, goTo, past, flipped, opened, closed}

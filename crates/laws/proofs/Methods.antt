@@ -1,26 +1,22 @@
 -- The methods of an allowed script: each has one begin and one end, and a called one is there.
 use mathlib.Core.Path.{_≡_, refl, ap, ap₂, sym, _∙_, subst}
-use mathlib.Core.Bool.{Bool, true, false, not, cond, _&&_, _||_}
-use mathlib.Core.List.{List, [], _∷_, _++_}
+use mathlib.Core.Bool.{Bool, true, false, not, _&&_}
+use mathlib.Core.List.{List, [], _∷_}
 use mathlib.Core.Logic.{_⊎_, inl, inr, ⊎-elim}
-use Prim.Native.Nat.{ℕ, zero, suc, _+_, _-_, _≤_, _<_}
+use Prim.Native.Nat.{ℕ, zero, suc, _-_, _≤_, _<_}
 use native.Mathlib.Omega.{arith}
-use lib.Dec.{eqb, leb, ltb}
-use lib.ListN.{length, getD}
-use Rattle.std.specs.declared.result.Result.{Result}
-use Rattle.std.specs.declared.result.Result.the-variants.{Ok, Err}
-use Rattle.std.proofs.shelf.Tests.{and-parts, and-from, not-true, eqb-true, eq-eqb, ltb-true, lt-ltb, le-leb, false≢true, cases-bool, both-ways}
-use Rattle.rules.specs.Answer.{either}
-use Rattle.rules.specs.Script.{Script, noLine, lineAt, opens, closes, bracket, partner, turnedKind, whereIs, hasMethod}
-use Rattle.rules.specs.Check.{nests, after, depth, checked, judged, walked, calls, within}
-use Rattle.rules.specs.Step.{past, met, entry}
+use lib.Dec.{eqb}
+use lib.ListN.{length}
+use Rattle.std.proofs.shelf.Tests.{and-parts, and-from, eqb-true, eq-eqb, ltb-true, lt-ltb, false≢true, cases-bool, both-ways}
+use Rattle.rules.specs.Script.{Script, lineAt, opens, closes, partner, turnedKind, whereIs, hasMethod}
+use Rattle.rules.specs.Check.{nests, after, depth, checked, walked, calls, within}
+use Rattle.rules.specs.Step.{entry}
 use Rattle.rules.specs.declared.Line.{Line}
-use Rattle.laws.proofs.Chains.{chose}
 use Rattle.laws.proofs.Accepted.{not-rejected, walked-on, checked-parts, accepted-block}
 use Rattle.laws.proofs.Turning.{turned-twice}
-use Rattle.laws.proofs.Nest.{Block, Paired, Has, openAt, closeAt, pairs, at-open, at-close, partner-open, partner-close, closes-turned, paired-length}
-use Rattle.laws.proofs.Stack.{stack, stackAt, below, stack-open, stack-opened, stack-close, Found, accepted-line}
-use Rattle.laws.proofs.Inside.{In, outer, inner, at-begin, closing-q, stack-closed}
+use Rattle.laws.proofs.Nest.{Block, Paired, Has, openAt, closeAt, pairs, at-open, at-close, partner-open, closes-turned, paired-length}
+use Rattle.laws.proofs.Stack.{stackAt, below, stack-open, stack-opened, stack-close, Found, accepted-line}
+use Rattle.laws.proofs.Inside.{In, outer, at-begin, closing-q, stack-closed}
 use Rattle.rules.specs.declared.Refusal.{Refusal}
 use Rattle.rules.specs.declared.Refusal.the-variants.{WrongMethod}
 use Rattle.reversible.specs.Ledger.{Verdict, accepted, rejected}

@@ -1,10 +1,10 @@
 -- A script turned end for end makes the mirrored steps.
-use mathlib.Core.Path.{_≡_, refl, ap, ap₂, sym, _∙_, subst, fun-ext}
+use mathlib.Core.Path.{_≡_, refl, ap, ap₂, _∙_}
 use mathlib.Core.Bool.{Bool, true, false, not, cond}
-use mathlib.Core.List.{List, [], _∷_, _++_, map, reverse}
-use Prim.Native.Nat.{ℕ, zero, suc, _+_, _-_, _≤_, _<_}
+use mathlib.Core.List.{List, [], _∷_, map, reverse}
+use Prim.Native.Nat.{ℕ, _-_, _<_}
 use native.Mathlib.Omega.{arith}
-use lib.IntN.{ℤ, pos}
+use lib.IntN.{ℤ}
 use lib.ListN.{length, getD}
 use Rattle.std.specs.declared.result.Result.{Result}
 use Rattle.std.specs.declared.result.Result.the-variants.{Ok, Err}
@@ -14,11 +14,8 @@ use Rattle.rules.specs.Word.{holds}
 use Rattle.rules.specs.Script.{Script, noLine, lineAt, turned, turnedLine, termsOf, partner, bracket}
 use Rattle.rules.specs.Expression.{worked}
 use Rattle.rules.specs.Step.{State, find, found, see, read, base, value, write, past, go, goTo, changed, branched, asserted}
-use Rattle.rules.specs.declared.Spot.{Spot}
 use Rattle.rules.specs.declared.Frame.{Frame}
 use Rattle.laws.proofs.Nest.{Block, partner-turned}
-use Rattle.rules.specs.declared.Place.{Place}
-use Rattle.rules.specs.declared.Line.{Line}
 use Rattle.rules.specs.declared.Refusal.{Refusal}
 use Rattle.rules.specs.declared.Refusal.the-variants.{TestFailed}
 

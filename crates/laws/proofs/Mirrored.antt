@@ -1,46 +1,45 @@
 -- The turned script's machine is the machine seen from the other end.
-use mathlib.Core.Path.{_≡_, refl, ap, ap₂, sym, _∙_, subst}
-use mathlib.Core.Bool.{Bool, true, false, not, cond, _&&_, _||_}
+use mathlib.Core.Path.{_≡_, refl, ap, ap₂, sym, _∙_}
+use mathlib.Core.Bool.{Bool, true, false, not, cond, _&&_}
 use mathlib.Core.List.{List, [], _∷_, _++_, map}
 use mathlib.Core.Logic.{_⊎_, inl, inr, ⊎-elim}
-use Prim.Native.Nat.{ℕ, zero, suc, _+_, _-_, _≤_, _<_}
+use Prim.Native.Nat.{ℕ, _+_, _-_, _≤_, _<_}
 use native.Mathlib.Omega.{arith}
-use lib.Dec.{T, eqb, leb, ltb}
+use lib.Dec.{eqb, ltb}
 use lib.Bits.{bitXor}
 use lib.IntN.{ℤ, pos, _+ℤ_, _-ℤ_}
 use lib.ListN.{length, getD, set, take, length-map}
 use Rattle.std.specs.declared.result.Result.{Result}
 use Rattle.std.specs.declared.result.Result.the-variants.{Ok, Err}
 use Rattle.std.proofs.shelf.Lists.{getD-past}
-use Rattle.std.proofs.shelf.Tests.{ltb-true, lt-ltb, cases-lt, cases-bool}
-use Rattle.reversible.specs.Machine.{Machine, Maps, Any, Dir, fwd, bwd, other, Next, finish, go, stop, mapNext}
+use Rattle.std.proofs.shelf.Tests.{ltb-true, lt-ltb, cases-lt}
+use Rattle.reversible.specs.Machine.{Maps, Any, Dir, fwd, bwd, other, Next, finish, go, stop, mapNext}
 use Rattle.reversible.specs.Laws.{Turns, Carries}
 use Rattle.reversible.proofs.Runs.{restores}
 use Rattle.reversible.proofs.Mapped.{carries, turns-round}
 use Rattle.rules.specs.Answer.{_>>=_, need, either}
-use Rattle.rules.specs.Word.{eqZ, word, holds, onBits}
+use Rattle.rules.specs.Word.{eqZ, word, onBits}
 use Rattle.rules.specs.Book.{recordAt, named, clear, records, isBook}
-use Rattle.rules.specs.Script.{Script, lineAt, isNone, turnedKind, turnedLine, turned, turnedScript, bracket, partner, whereIs, hasMethod}
+use Rattle.rules.specs.Script.{Script, lineAt, isNone, turnedKind, turnedLine, turned, turnedScript, whereIs, hasMethod}
 use Rattle.rules.specs.Check.{checked}
 use Rattle.rules.specs.Step.{State, inside, find, read, value, past, met, turnOf, kindMet, entry, across, caller, callee, holding, withBook, withLocals, write, rules, rule, step, finished, opened, closed, allocated, freed, copied, uncopied, swapped, entered, left, returned}
 use Rattle.rules.specs.declared.Frame.{Frame}
-use Rattle.rules.specs.declared.Spot.{Spot}
 use Rattle.rules.specs.Step as steps
 use Rattle.rules.specs.Run.{ahead, start, next, machine}
 use Rattle.rules.specs.declared.Line.{Line}
 use Rattle.rules.specs.declared.Place.{Place}
 use Rattle.laws.proofs.Law.{same-kind}
-use Rattle.laws.proofs.Mirror.{mirrored, mapOk, bind-map, cond-map, base-same, line-turned, find-mirrored, value-mirrored, go-mirrored, changed-mirrored, asserted-mirrored, branched-mirrored}
+use Rattle.laws.proofs.Mirror.{mirrored, mapOk, bind-map, line-turned, find-mirrored, value-mirrored, go-mirrored, changed-mirrored, asserted-mirrored, branched-mirrored}
 use Rattle.laws.proofs.Nest.{openAt, closeAt, at-open, at-close, paired-length, turned-length, turned-append, turned-cons}
 use Rattle.laws.proofs.Turning.{Each, each-at, turned-twice}
 use Rattle.laws.proofs.Inside.{in-range, partner-in}
 use Rattle.laws.proofs.Methods.{block, Method, method-of, calls-method, where-at, where-hit, begin-is, end-is, end-method}
-use Rattle.laws.proofs.Fit.{Link, Chain, Fit, turn-at, turn-in}
+use Rattle.laws.proofs.Fit.{Chain, Fit, turn-in}
 use Rattle.laws.proofs.Keep.{bracket-met}
 use Rattle.laws.proofs.Lawful.{Inv, lawful, is-true}
 use Rattle.rules.specs.declared.Refusal.{Refusal}
 use Rattle.rules.specs.declared.Refusal.the-variants.{Changed, FreeUnfit, NoFree, NoRecord, NotClear, TestFailed, TooDeep, Unknown}
-use Rattle.reversible.specs.Ledger.{Verdict, accepted, rejected}
+use Rattle.reversible.specs.Ledger.{accepted}
 
 -- ---- turned twice
 

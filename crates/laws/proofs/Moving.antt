@@ -1,22 +1,17 @@
 -- A finished state makes no step.
-use mathlib.Core.Path.{_≡_, refl, ap, ap₂, sym, _∙_, subst}
-use mathlib.Core.Bool.{Bool, true, false, not, cond, _&&_}
-use mathlib.Core.List.{List, [], _∷_}
-use mathlib.Core.Logic.{_⊎_, inl, inr, ⊎-elim}
-use Prim.Native.Nat.{ℕ, zero, suc, _+_, _-_, _≤_, _<_}
-use native.Mathlib.Omega.{arith}
+use mathlib.Core.Path.{_≡_, refl, ap, sym, _∙_}
+use mathlib.Core.Bool.{Bool, true, false}
+use mathlib.Core.List.{[]}
+use Prim.Native.Nat.{_-_}
 use lib.Dec.{eqb}
-use lib.IntN.{ℤ}
 use lib.ListN.{length, getD}
-use Rattle.std.specs.declared.result.Result.{Result}
 use Rattle.std.specs.declared.result.Result.the-variants.{Ok, Err}
-use Rattle.std.proofs.shelf.Tests.{and-parts, eqb-true, both-ways, cond-true, cond-false}
+use Rattle.std.proofs.shelf.Tests.{and-parts, eqb-true}
 use Rattle.std.proofs.shelf.Lists.{nil-from-length}
-use Rattle.rules.specs.Answer.{either}
 use Rattle.rules.specs.Script.{Script}
-use Rattle.rules.specs.Step.{State, step, finished, kindMet, turnOf, rules, returned, flipped}
+use Rattle.rules.specs.Step.{State, step, finished, kindMet, turnOf, rules, returned}
 use Rattle.rules.specs.declared.Refusal.the-variants.{Unknown}
-use Rattle.laws.proofs.Chains.{ok-err, ok-same, chose}
+use Rattle.laws.proofs.Chains.{ok-err}
 
 -- a finished state makes no step
 pub finished-stops : (sc : Script) (s t : State) → finished sc s ≡ true → step sc s ≡ Ok t → ⊥

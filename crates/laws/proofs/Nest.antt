@@ -1,18 +1,18 @@
 -- Pairs that nest properly, and the other line of a pair.
 use mathlib.Core.Path.{_≡_, refl, ap, ap₂, sym, _∙_, subst, subst₂}
-use mathlib.Core.Bool.{Bool, true, false, not, cond, _&&_, _||_}
+use mathlib.Core.Bool.{true, false}
 use mathlib.Core.List.{List, [], _∷_, _++_, map, reverse}
 use mathlib.Core.Logic.{_⊎_, inl, inr, ⊎-elim}
 use Prim.Native.Nat.{ℕ, zero, suc, _+_, _-_, _≤_, _<_}
 use native.Mathlib.Omega.{arith}
 use native.Mathlib.Nat.{zero-add, suc-add}
-use lib.Dec.{eqb, leb, ltb, eqb·suc-zero}
+use lib.Dec.{ltb, eqb·suc-zero}
 use lib.ListN.{length, getD, take, drop}
 use Rattle.std.proofs.shelf.Lists.{append-assoc, append-nil, map-append, reverse-append, length-append, length-map, length-reverse, take-at, drop-at, getD-at, getD-append-left, getD-append-right}
 use Rattle.std.proofs.shelf.Tests.{cases-lt, cases-eq, cond-true, cond-false, false≢true, le-ltb}
-use Rattle.rules.specs.Script.{Script, noLine, lineAt, turnedKind, turnedLine, turned, bracket, opens, closes, deeper, toCloser, partner}
+use Rattle.rules.specs.Script.{noLine, lineAt, turnedKind, turnedLine, turned, bracket, opens, closes, toCloser, partner}
 use Rattle.rules.specs.declared.Line.{Line}
-use Rattle.laws.proofs.Turning.{Each, each-at, turned-twice}
+use Rattle.laws.proofs.Turning.{each-at, turned-twice}
 
 pub data Block : List Line → Type 0 where
   empty : Block []

@@ -1,23 +1,22 @@
 -- Two places that are written differently lie apart, so an expression does not see a write to a place that it does not name.
-use mathlib.Core.Path.{_≡_, refl, ap, ap₂, sym, _∙_, subst, fun-ext}
-use mathlib.Core.Bool.{Bool, true, false, not, cond, _&&_, _||_}
+use mathlib.Core.Path.{_≡_, refl, ap, ap₂, sym, _∙_, fun-ext}
+use mathlib.Core.Bool.{true, false, not, cond, _&&_}
 use mathlib.Core.List.{List, [], _∷_}
-use Prim.Native.Nat.{ℕ, zero, suc, _+_, _-_, _*_, _≤_, _<_}
+use Prim.Native.Nat.{ℕ, zero, suc, _+_, _-_}
 use native.Mathlib.Omega.{arith}
-use lib.Dec.{eqb, leb, ltb}
+use lib.Dec.{leb}
 use lib.IntN.{ℤ, pos}
-use lib.ListN.{length, getD, set}
+use lib.ListN.{getD, set}
 use Rattle.std.specs.shelf.Lists.{All}
 use Rattle.std.specs.declared.result.Result.{Result}
 use Rattle.std.specs.declared.result.Result.the-variants.{Ok, Err}
-use Rattle.std.proofs.shelf.Lists.{getD-set-other}
-use Rattle.std.proofs.shelf.Tests.{and-parts, or-parts, leb-true, eq-eqb, le-leb, lt-leb, cond-true, cond-false, both-ways, and-from}
+use Rattle.std.proofs.shelf.Tests.{and-parts, or-parts, eq-eqb, cond-true, both-ways, and-from}
 use Rattle.rules.specs.Answer.{_>>=_}
 use Rattle.rules.specs.Book.{recordAt}
-use Rattle.rules.specs.Script.{Script, alike, letter, index}
+use Rattle.rules.specs.Script.{alike, letter, index}
 use Rattle.rules.specs.Check.{known, reaches, names, placeForm, termShape, termForm, termsForm}
 use Rattle.rules.specs.Expression.{worked, taken}
-use Rattle.rules.specs.Step.{State, found, find, read, see, write, base}
+use Rattle.rules.specs.Step.{State, found, find, see, write, base}
 use Rattle.rules.specs.declared.Spot.{Spot}
 use Rattle.rules.specs.declared.Spot.the-variants.{InBook, InLocals}
 use Rattle.rules.specs.declared.Place.{Place}

@@ -1,22 +1,17 @@
 -- The pairs open at each position of an allowed script, and what the check found of each line.
-use mathlib.Core.Path.{_≡_, refl, ap, ap₂, sym, _∙_, subst}
-use mathlib.Core.Bool.{Bool, true, false, not, cond, _&&_, _||_}
+use mathlib.Core.Path.{_≡_, refl, ap, sym, _∙_, subst}
+use mathlib.Core.Bool.{true, false}
 use mathlib.Core.List.{List, [], _∷_, _++_, tail}
-use Prim.Native.Nat.{ℕ, zero, suc, _+_, _-_, _≤_, _<_}
+use Prim.Native.Nat.{ℕ, zero, suc, _+_, _-_, _<_}
 use native.Mathlib.Omega.{arith}
 use native.Mathlib.Nat.{zero-add}
-use lib.Dec.{eqb, leb, ltb}
-use lib.ListN.{length, getD, take}
-use Rattle.std.specs.shelf.Lists.{All}
-use Rattle.std.specs.declared.result.Result.{Result}
-use Rattle.std.specs.declared.result.Result.the-variants.{Ok, Err}
+use lib.ListN.{length, take}
 use Rattle.std.proofs.shelf.Lists.{append-assoc, take-at, length-append}
-use Rattle.std.proofs.shelf.Tests.{and-parts}
-use Rattle.rules.specs.Script.{Script, lineAt, termsOf, opens, closes}
-use Rattle.rules.specs.Check.{after, depth, known, names, wellFilled, nests, wellFormed, apart, judged, walked, checked}
+use Rattle.rules.specs.Script.{Script, lineAt, opens, closes}
+use Rattle.rules.specs.Check.{after, walked, checked}
 use Rattle.rules.specs.declared.Line.{Line}
 use Rattle.laws.proofs.Nest.{Block, empty, plain, pair, unbracketed, closes-turned, Paired, openAt, closeAt}
-use Rattle.reversible.specs.Ledger.{Verdict, accepted, rejected}
+use Rattle.reversible.specs.Ledger.{accepted}
 use Rattle.laws.proofs.Accepted.{Passed, judged-parts, walked-on, checked-parts}
 
 abbrev pub stack : List Line → List Line → List Line

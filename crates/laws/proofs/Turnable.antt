@@ -1,23 +1,23 @@
 -- A script that is allowed is allowed when it is turned: the grammar reads the same from the other end.
-use mathlib.Core.Path.{_≡_, refl, ap, ap₂, sym, _∙_, subst}
+use mathlib.Core.Path.{_≡_, refl, ap, sym, _∙_, subst}
 use mathlib.Core.Bool.{Bool, true, false, not, cond, _&&_, _||_}
 use mathlib.Core.List.{List, [], _∷_, _++_}
 use mathlib.Core.Logic.{_⊎_, inl, inr, ⊎-elim}
-use Prim.Native.Nat.{ℕ, zero, suc, _+_, _-_, _≤_, _<_}
+use Prim.Native.Nat.{ℕ, suc, _+_, _-_, _<_}
 use native.Mathlib.Omega.{arith}
 use lib.Dec.{eqb, leb, ltb}
 use lib.ListN.{length}
 use Rattle.std.proofs.shelf.Lists.{append-assoc}
-use Rattle.std.proofs.shelf.Tests.{and-parts, and-from, or-cases, or-left, or-right, leb-true, ltb-true, eqb-true, ne-eqb, not-from-false, cases-eq, false≢true}
+use Rattle.std.proofs.shelf.Tests.{and-parts, and-from, or-cases, or-left, leb-true, ltb-true, eqb-true, ne-eqb, not-from-false, false≢true}
 use Rattle.reversible.specs.Ledger.{accepted}
 use Rattle.rules.specs.Script.{Script, lineAt, isNone, alike, turnedKind, turnedLine, turned, turnedScript, bracket, whereIs, hasMethod, termsOf}
 use Rattle.rules.specs.Check.{known, sort, reaches, names, within, Form, formOf, usesX, usesY, among, expressionForm, wellFilled, wellFormedAt, apart, checked}
-use Rattle.rules.specs.Allowed.{Fits, Joined, Body, nothing, plain, pair, scope, Methods, none, method, Begins, Calls, Allowed}
+use Rattle.rules.specs.Allowed.{Fits, Joined, Body, nothing, plain, pair, scope, Methods, none, method, Begins, Calls}
 use Rattle.rules.specs.declared.Line.{Line}
 use Rattle.rules.specs.declared.Term.{Term}
 use Rattle.rules.specs.declared.Place.{Place}
 use Rattle.rules.specs.declared.Place.the-variants.{None, M, R, N, F, V}
-use Rattle.laws.proofs.Turning.{Each, each-at, turned-twice}
+use Rattle.laws.proofs.Turning.{each-at, turned-twice}
 use Rattle.laws.proofs.Nest.{bracket-turned, turned-append, turned-cons, turned-length}
 use Rattle.laws.proofs.Mirror.{line-turned}
 use Rattle.laws.proofs.Methods.{where-at, end-is, calls-method}

@@ -1,16 +1,15 @@
 -- What an expression over words gives is a word.
-use mathlib.Core.Path.{_≡_, refl, ap, ap₂, sym, _∙_, subst}
-use mathlib.Core.Bool.{Bool, true, false, not, cond, _&&_, _||_}
+use mathlib.Core.Path.{_≡_, refl, subst}
+use mathlib.Core.Bool.{Bool, true, false}
 use mathlib.Core.List.{List, [], _∷_, _++_}
-use Prim.Native.Nat.{ℕ, zero, suc, _+_, _-_, _≤_, _<_, _^_}
-use native.Mathlib.Omega.{arith}
-use lib.IntN.{ℤ, pos, negsuc, _+ℤ_, _-ℤ_, _*ℤ_}
+use Prim.Native.Nat.{ℕ, zero, suc, _+_, _-_, _<_, _^_}
+use lib.IntN.{ℤ, pos, _+ℤ_, _-ℤ_, _*ℤ_}
 use lib.Signed.{quotZ, remZ}
 use lib.Bits.{bitAnd, bitOr, bitXor, and-lt, or-lt, xor-lt}
 use lib.Dec.{ltb}
-use lib.ListN.{length, getD, set, take}
+use lib.ListN.{length, getD, set}
 use mir.Syntax.{w32}
-use mir.Val.{SFits, toZ, ofZ}
+use mir.Val.{SFits}
 use mir.ValLaws.{toZ-fits}
 use Rattle.std.specs.shelf.Lists.{All}
 use Rattle.std.specs.shelf.Signed.{wrapped}
@@ -28,7 +27,7 @@ use Rattle.laws.proofs.Chains.{ok-err, ok-same, passed, chose}
 use Rattle.laws.proofs.Cells.{eqZ-true, eqZ-from}
 use Rattle.laws.proofs.Words.{bits-lt}
 use Rattle.rules.specs.declared.Refusal.{Refusal}
-use Rattle.rules.specs.declared.Refusal.the-variants.{Malformed, ZeroDivisor}
+use Rattle.rules.specs.declared.Refusal.the-variants.{ZeroDivisor}
 
 abbrev pub IsWord : ℤ → Type 0
 IsWord z = word z ≡ z

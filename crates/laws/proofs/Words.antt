@@ -1,8 +1,7 @@
 -- Adding, subtracting and xor undo themselves on words.
-use mathlib.Core.Path.{_≡_, refl, ap, sym, _∙_}
+use mathlib.Core.Path.{_≡_, ap, _∙_}
 use Prim.Native.Nat.{ℕ, _^_, _<_}
-use native.Mathlib.Omega.{arith}
-use lib.IntN.{ℤ, pos, _+ℤ_, _-ℤ_, negℤ, +ℤ-negℤ-cancel, -ℤ-+ℤ-cancel}
+use lib.IntN.{ℤ, _+ℤ_, _-ℤ_, negℤ, +ℤ-negℤ-cancel, -ℤ-+ℤ-cancel}
 use lib.Bits.{bitXor, xor-assoc, xor-self, xor-zero-r, xor-lt}
 use mir.Syntax.{w32}
 use mir.Val.{SFits, toZ, ofZ}

@@ -3,13 +3,13 @@ use mathlib.Core.Path.{_≡_, refl, sym, ap, subst, _∙_}
 use mathlib.Core.Logic.{_↔_}
 use mathlib.Core.Bool.{Bool, true, false}
 use mathlib.Core.List.{List, [], _∷_, _++_}
-use Prim.Native.Nat.{ℕ, zero, suc, _+_, _-_, _≤_}
+use Prim.Native.Nat.{ℕ, _+_, _-_}
 use native.Mathlib.Omega.{arith}
-use lib.Dec.{T, ltb}
-use lib.ListN.{length, getD, take}
+use lib.Dec.{ltb}
+use lib.ListN.{length}
 use Rattle.std.proofs.shelf.Lists.{take-more, take-all}
-use Rattle.reversible.specs.Machine.{Machine, Lawful, Dir, fwd, bwd, Outcome, done, refused, after, run}
-use Rattle.reversible.specs.Ledger.{Verdict, accepted, rejected, Rules, LawfulRules, Call, load, apply, back, look, Answer, success, refusal, seen, Entry, entry, Standing, last, struck, Screen, Ledger, carried-on, gate, attempt, carried, ledger-load, ledger-apply, ledger-back, ledger-call, screen-load, screen-apply, screen-backed, screen-back, screen-call, open-screen, open-ledger, plays, screen-after, Tied, Keeps, Heard, Follows, Apart}
+use Rattle.reversible.specs.Machine.{Machine, Dir, fwd, Outcome, done, refused, after, run}
+use Rattle.reversible.specs.Ledger.{Verdict, accepted, rejected, Rules, LawfulRules, Call, load, apply, back, look, Answer, success, refusal, Entry, entry, Standing, last, struck, Screen, Ledger, carried-on, gate, attempt, carried, ledger-load, ledger-apply, ledger-back, ledger-call, screen-load, screen-apply, screen-backed, screen-back, screen-call, open-screen, open-ledger, plays, screen-after, Keeps, Follows, Apart}
 use Rattle.reversible.proofs.Runs.{restores, budgets, undone, separates}
 
 -- each standing pair is a run that finishes

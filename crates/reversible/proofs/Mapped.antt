@@ -1,12 +1,10 @@
 -- Runs of a machine and of one that its states are mapped to.
 use mathlib.Core.Path.{_≡_, refl, sym, ap, subst, _∙_}
-use mathlib.Core.Logic.{_↔_}
-use mathlib.Core.Bool.{Bool, true, false}
-use Prim.Native.Nat.{ℕ, zero, suc, _≤_}
+use Prim.Native.Nat.{ℕ, zero, suc}
 use lib.Dec.{T}
-use Rattle.reversible.specs.Machine.{Machine, Lawful, Maps, Dir, fwd, bwd, other, Next, finish, go, stop, How, ended, spent, bad, Walk, rest, bump, at-rest, onward, Outcome, done, refused, pick, walk, undo, outcome, conclude, run-from, run, mapNext, mapOutcome, Any}
+use Rattle.reversible.specs.Machine.{Machine, Lawful, Maps, Dir, fwd, bwd, other, Next, finish, go, stop, How, ended, spent, bad, Walk, bump, at-rest, onward, done, refused, walk, undo, outcome, conclude, run, mapNext, mapOutcome, Any}
 use Rattle.reversible.specs.Laws.{Restores, Turns, Carries}
-use Rattle.reversible.proofs.Runs.{Finished, finished, never, undone, walk-rests, run-from-enter, Rests, Steps}
+use Rattle.reversible.proofs.Runs.{finished, never, undone, walk-rests, run-from-enter, Rests, Steps}
 
 -- a walk, with its state mapped
 abbrev mapWalk : {S S′ R : Type 0} → (S → S′) → Walk S R → Walk S′ R

@@ -4,7 +4,7 @@ use mathlib.Core.Logic.{_↔_}
 use mathlib.Core.Bool.{Bool}
 use Prim.Native.Nat.{ℕ, _≤_}
 use lib.Dec.{T}
-use Rattle.reversible.specs.Machine.{Machine, Lawful, Maps, Dir, fwd, other, Outcome, done, refused, run, mapOutcome}
+use Rattle.reversible.specs.Machine.{Machine, Lawful, Maps, Dir, fwd, other, done, refused, run, mapOutcome}
 
 module _ {S B R : Type 0} (m : Machine S B R) where
   -- a refused run leaves the book it began with

@@ -1,7 +1,7 @@
 -- Books: how their words lie, and what reading and writing one word give.
 -- Word 0 is the free head, m i is word i, r i is word 64 + i, and record k is words 73 + 8k to 80 + 8k: n0 to n3, then f0 to f3.
 use mathlib.Core.Path.{_≡_}
-use mathlib.Core.Bool.{Bool, true, false, cond, _&&_}
+use mathlib.Core.Bool.{Bool, true, cond, _&&_}
 use mathlib.Core.List.{List, [], _∷_}
 use mathlib.Core.Logic.{_⊎_}
 use Prim.Native.Nat.{ℕ, _+_, _-_, _*_, _/_, _%_}

@@ -1,7 +1,6 @@
 -- Worked figures: what the rules give in particular cases, as one list under one statement.
 -- Unless said, a book has two records, the head is 1, record 1 links to 2, and all else is 0.
 use mathlib.Core.Path.{_≡_}
-use mathlib.Core.Bool.{Bool, true, false}
 use mathlib.Core.List.{List, [], _∷_}
 use Prim.Native.Nat.{ℕ}
 use lib.IntN.{ℤ, pos, negsuc}
@@ -10,7 +9,7 @@ use Rattle.std.specs.shelf.Lists.{All}
 use Rattle.std.specs.declared.result.Result.{Result}
 use Rattle.std.specs.declared.result.Result.the-variants.{Ok, Err}
 use Rattle.reversible.specs.Machine.{Dir, fwd, bwd, run, after}
-use Rattle.reversible.specs.Ledger.{Call, load, apply, back, look, Answer, success, refusal, seen, Verdict, accepted, plays, ledger-call, open-ledger}
+use Rattle.reversible.specs.Ledger.{Call, load, apply, back, look, Answer, success, refusal, seen, accepted, plays, ledger-call, open-ledger}
 use Rattle.rules.specs.Kinds.{code}
 use Rattle.rules.specs.Word.{operate}
 use Rattle.rules.specs.Script.{Script, turned}

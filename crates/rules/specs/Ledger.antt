@@ -1,11 +1,8 @@
 -- What a screen and its ledger go by: the check, the machine of a script, and reading a word.
 -- The screen, the ledger and its carried book are defined in `reversible`, for any such rules.
 use mathlib.Core.List.{List, []}
-use Prim.Native.Nat.{ℕ}
 use lib.IntN.{ℤ}
-use Rattle.std.specs.declared.result.Result.{Result}
-use Rattle.reversible.specs.Ledger.{Rules, Answer, success, refusal, seen}
-use Rattle.rules.specs.Answer.{number}
+use Rattle.reversible.specs.Ledger.{Rules}
 use Rattle.rules.specs.Book.{readOf}
 use Rattle.rules.specs.Script.{Script}
 use Rattle.rules.specs.Check.{checked}

@@ -1,16 +1,15 @@
 -- The calls of the rules' screen, by what the code found.
-use mathlib.Core.Path.{_≡_, refl, sym, ap, ap₂, _∙_}
+use mathlib.Core.Path.{_≡_, refl, sym, ap, _∙_}
 use mathlib.Core.Bool.{Bool, true, false}
 use mathlib.Core.List.{List, [], _∷_, _++_, map}
-use Prim.Native.Nat.{ℕ, suc, _+_, _-_, _<_, _≤_}
+use Prim.Native.Nat.{ℕ, _+_, _-_, _<_, _≤_}
 use native.Mathlib.Omega.{arith}
-use lib.Dec.{ltb}
 use lib.IntN.{ℤ}
 use lib.ListN.{length, take, getD, set, length-map}
-use Rattle.std.proofs.shelf.Lists.{map-append, take-more, take-more-set, length-take-le, getD-map, getD-take, take-map, take-take}
+use Rattle.std.proofs.shelf.Lists.{map-append, take-more-set, length-take-le, getD-map, getD-take, take-map, take-take}
 use Rattle.std.proofs.shelf.Tests.{lt-ltb, le-ltb}
-use Rattle.reversible.specs.Machine.{Machine, fwd, bwd, Outcome, done, refused, run}
-use Rattle.reversible.specs.Ledger.{Entry, entry, last, struck, Screen as Model, Verdict, Answer, success, refusal, seen, gate, attempt, load, apply, back, screen-load, screen-apply, screen-backed, screen-back, screen-call}
+use Rattle.reversible.specs.Machine.{Machine, fwd, bwd, Outcome, run}
+use Rattle.reversible.specs.Ledger.{Entry, entry, last, struck, Screen as Model, Verdict, refusal, gate, attempt, apply, back, screen-load, screen-apply, screen-backed, screen-back, screen-call}
 use Rattle.rules.specs.Book.{isBook}
 use Rattle.rules.specs.Script.{Script, hasMethod}
 use Rattle.rules.specs.Step.{State}

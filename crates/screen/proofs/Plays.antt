@@ -1,22 +1,20 @@
 -- Sessions, a call at a time.
 use mathlib.Core.Path.{_≡_, refl, sym, ap, ap₂, _∙_}
 use mathlib.Core.List.{List, [], _∷_, _++_, map}
-use Prim.Native.Nat.{ℕ, zero, suc, _+_, _<_}
-use native.Mathlib.Omega.{arith}
+use Prim.Native.Nat.{ℕ, suc, _+_, _<_}
 use lib.IntN.{ℤ}
 use lib.ListN.{length, take, getD, set, length-map}
-use Rattle.std.proofs.shelf.Lists.{take-more, take-all, map-append, length-append, take-map}
-use Rattle.std.specs.declared.result.Result.the-variants.{Ok, Err}
+use Rattle.std.proofs.shelf.Lists.{take-more, map-append}
 use Rattle.reversible.specs.Machine.{Outcome, done, refused}
-use Rattle.reversible.specs.Ledger.{Call as Asked, Verdict, accepted, rejected, Entry, Answer, success, refusal, seen, Screen as Model, plays, open-screen, screen-after, screen-load, screen-apply, screen-backed, screen-back, screen-call}
+use Rattle.reversible.specs.Ledger.{Call as Asked, Verdict, accepted, rejected, Entry, Answer, Screen as Model, plays, open-screen, screen-after, screen-load, screen-apply, screen-backed, screen-back, screen-call}
 use Rattle.rules.specs.Script.{Script}
 use Rattle.rules.specs.Ledger.{screenRules}
 use Rattle.rules.specs.declared.Refusal.{Refusal}
 use Rattle.laws.proofs.Stands.{whole}
-use Rattle.screen.specs.Model.{three, two}
+use Rattle.screen.specs.Model.{three}
 use Rattle.screen.specs.declared.words.Call.{Call}
 use Rattle.screen.specs.declared.words.Reply.{Reply}
-use Rattle.screen.specs.declared.words.Reply.the-variants.{Numbers, Word}
+use Rattle.screen.specs.declared.words.Reply.the-variants.{Numbers}
 use Rattle.screen.specs.Sessions.{callOf, replyOf, written, Played}
 
 -- ---- replies

@@ -5,7 +5,6 @@ use mathlib.Core.List.{List, map}
 use Prim.Native.Nat.{ℕ}
 use lib.IntN.{ℤ, pos}
 use lib.ListN.{take}
-use Rattle.std.specs.declared.result.Result.{Result}
 use Rattle.std.specs.declared.result.Result.the-variants.{Ok, Err}
 use Rattle.reversible.specs.Machine.{refused}
 use Rattle.reversible.specs.Ledger.{Entry, entry, Screen as Model, Answer, success, refusal, seen, gate}

@@ -1,7 +1,6 @@
 -- Sessions of calls, and what is promised of them.
 use mathlib.Core.Path.{_≡_}
 use mathlib.Core.List.{List, [], _∷_, map}
-use Prim.Native.Nat.{ℕ}
 use lib.IntN.{ℤ, pos}
 use denote.Ref.{now}
 use Rattle.std.specs.declared.result.Result.the-variants.{Ok, Err}

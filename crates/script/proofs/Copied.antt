@@ -1,10 +1,10 @@
 -- A table whose front is a copy.
 use mathlib.Core.Path.{_≡_, sym, ap, _∙_}
 use mathlib.Core.List.{List, _∷_, [], _++_}
-use Prim.Native.Nat.{ℕ, _+_, _<_, _≤_}
+use Prim.Native.Nat.{ℕ, _+_, _<_}
 use native.Mathlib.Nat.{le-refl}
 use lib.ListN.{length, take, set, getD}
-use Rattle.std.proofs.shelf.Lists.{take-more, take-more-set, take-all, length-set}
+use Rattle.std.proofs.shelf.Lists.{take-more, take-more-set, take-all}
 
 module _ {X : Type 0} (xs table : List X) (k : ℕ) (same : take k table ≡ take k xs) where
   pub copied-more : (d : X) → k < length xs → k < length table → take (k + 1) (set table k (getD xs k d)) ≡ take (k + 1) xs

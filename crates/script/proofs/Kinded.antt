@@ -8,7 +8,6 @@ use lib.Dec.{leb}
 use Rattle.std.proofs.shelf.Lists.{getD-past}
 use Rattle.std.proofs.shelf.Tests.{cases-lt}
 use Rattle.laws.proofs.Turning.{each-at}
-use Rattle.std.specs.declared.option.Option.{Option}
 use Rattle.std.specs.declared.option.Option.the-variants.{Some, None}
 use Rattle.rules.specs.Kinds.{code, kinds, kindOf}
 use Rattle.rules.specs.declared.Kind.{Kind}

@@ -1,22 +1,21 @@
 -- What the code finds of one line is what the rules find.
 use mathlib.Core.Path.{_≡_, refl, sym, ap, _∙_, subst}
 use mathlib.Core.Bool.{Bool, true, false, not, cond, _&&_, _||_}
-use mathlib.Core.List.{List, []}
+use mathlib.Core.List.{List}
 use Prim.Native.Nat.{ℕ, _-_, _<_}
 use native.Mathlib.Omega.{arith}
 use lib.Dec.{eqb, leb, ltb}
 use lib.ListN.{getD, take, drop}
-use Rattle.std.specs.declared.result.Result.{Result}
 use Rattle.std.specs.declared.result.Result.the-variants.{Ok, Err}
 use Rattle.std.proofs.shelf.Tests.{and-parts, eqb-true, leb-true}
 use Rattle.rules.specs.Answer.{_>>=_, need}
-use Rattle.rules.specs.Script.{Script, isNone, alike, termsOf, whereIs}
-use Rattle.rules.specs.Check.{known, sort, reaches, formOf, usesX, usesY, among, wellFilled, within, nests, depth, expressionForm, wellFormedAt, names, apart, judged}
+use Rattle.rules.specs.Script.{Script, isNone, termsOf, whereIs}
+use Rattle.rules.specs.Check.{known, sort, reaches, formOf, usesX, usesY, among, wellFilled, nests, depth, expressionForm, wellFormedAt, names, apart, judged}
 use Rattle.rules.specs.declared.Line.{Line}
 use Rattle.rules.specs.declared.Term.{Term}
 use Rattle.rules.specs.declared.Refusal.{Refusal}
 use Rattle.rules.specs.declared.Refusal.the-variants.{Unknown, Unpaired, WrongMethod, Malformed, SelfNamed}
-use Rattle.script.specs.Reading.{readOver, placedAt, namedIn, apartFrom, onName, judgedBy}
+use Rattle.script.specs.Reading.{placedAt, namedIn, apartFrom, onName, judgedBy}
 
 need-cond : (b : Bool) (r : Refusal) → need b r ≡ cond b (Ok tt) (Err r)
 unfolding need

@@ -1,10 +1,9 @@
 -- Lines turned and then exchanged end for end.
-use mathlib.Core.Path.{_≡_, refl, sym, ap, _∙_, subst}
+use mathlib.Core.Path.{_≡_, refl, sym, ap, _∙_}
 use mathlib.Core.List.{List, [], _∷_, _++_, map, reverse}
 use Rattle.std.specs.declared.result.Result.{Result}
 use Rattle.std.specs.declared.result.Result.the-variants.{Ok, Err}
 use Rattle.std.proofs.shelf.Lists.{reverse-append}
-use Rattle.reversible.specs.Ledger.{accepted}
 use Rattle.rules.specs.Script.{turnedLine, turned}
 use Rattle.rules.specs.Check.{checked}
 use Rattle.rules.specs.declared.Line.{Line}

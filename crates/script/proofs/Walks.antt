@@ -1,21 +1,19 @@
 -- The check's walk over the lines, a line at a time.
-use mathlib.Core.Path.{_≡_, refl, sym, ap, ap₂, _∙_, subst}
-use mathlib.Core.Bool.{Bool, true, false, not, cond, _&&_, _||_}
-use mathlib.Core.List.{List, [], _∷_, reverse}
-use mathlib.Core.Logic.{_⊎_, inl, inr, ⊎-elim, _≢_}
+use mathlib.Core.Path.{_≡_, refl, sym, ap, _∙_}
+use mathlib.Core.Bool.{Bool, true, false, not, cond, _&&_}
+use mathlib.Core.List.{List, [], _∷_}
+use mathlib.Core.Logic.{_⊎_, ⊎-elim, _≢_}
 use Prim.Native.Nat.{ℕ, suc, _+_, _-_, _<_, _≤_}
 use native.Mathlib.Omega.{arith}
 use native.Mathlib.Numerals.{add-one}
-use lib.Dec.{eqb, leb, ltb}
-use lib.ListN.{length, drop, getD, take, set}
-use Rattle.std.specs.declared.result.Result.{Result}
+use lib.Dec.{eqb, ltb}
+use lib.ListN.{length, drop, getD, set}
 use Rattle.std.specs.declared.result.Result.the-variants.{Ok, Err}
 use Rattle.std.proofs.shelf.Lists.{at-drop-more, at-drop-all, getD-set-same, getD-set-other}
-use Rattle.std.proofs.shelf.Tests.{eqb-true, eq-eqb, ne-eqb, lt-ltb, le-ltb, cases-eq, cases-lt, cases-bool, and-from}
-use Rattle.std.proofs.shelf.Ways.{tells}
+use Rattle.std.proofs.shelf.Tests.{eqb-true, eq-eqb, ne-eqb, lt-ltb, le-ltb, cases-eq, cases-lt}
 use Rattle.reversible.specs.Ledger.{Verdict, accepted, rejected}
 use Rattle.rules.specs.Answer.{either}
-use Rattle.rules.specs.Script.{Script, noLine, lineAt, whereIs, hasMethod}
+use Rattle.rules.specs.Script.{Script, lineAt, whereIs, hasMethod}
 use Rattle.rules.specs.Check.{wellFilled, after, within, judged, calls, walked}
 use Rattle.rules.specs.declared.Line.{Line}
 use Rattle.rules.specs.declared.Refusal.{Refusal}

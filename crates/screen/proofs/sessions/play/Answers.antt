@@ -1,6 +1,5 @@
 use mathlib.Core.Path.{_≡_, sym, ap, _∙_, subst}
 use mathlib.Core.List.{List, map}
-use Prim.Native.Nat.{ℕ, _≤_}
 use native.Mathlib.Omega.{arith}
 use lib.IntN.{ℤ}
 use lib.ListN.{length, take, set, length-map}
@@ -9,9 +8,9 @@ use Rattle.reversible.specs.Ledger.{Screen as Model, open-screen}
 use Rattle.rules.specs.Script.{Script}
 use Rattle.rules.specs.Ledger.{screenRules}
 use Rattle.screen.specs.Model.{model}
-use Rattle.screen.specs.Sessions.{callOf, written, Played}
+use Rattle.screen.specs.Sessions.{callOf, Played}
 use Rattle.screen.specs.declared.words.Reply.{Reply}
-use Rattle.screen.proofs.Plays.{written-none, asked, answered, screen-more, replies-more, played}
+use Rattle.screen.proofs.Plays.{written-none, asked, screen-more, replies-more, played}
 use Rattle.screen.proofs.sessions.play.Needs as need
 
 pub loop-k-holds : need.loop-k-holds

@@ -1,4 +1,4 @@
-use mathlib.Core.Path.{_≡_, sym, ap, _∙_}
+use mathlib.Core.Path.{ap, _∙_}
 use Rattle.laws.proofs.Stands.{whole}
 use Rattle.screen.proofs.sessions.rehearse.Needs as need
 

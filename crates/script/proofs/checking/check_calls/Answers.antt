@@ -1,8 +1,6 @@
-use borrow.Author.Needs.{needs}
-use mathlib.Core.Path.{_≡_, sym, ap, _∙_}
+use mathlib.Core.Path.{sym, ap, _∙_}
 use mathlib.Core.Bool.{Bool, not, _&&_}
 use lib.ListN.{getD}
-use Rattle.rules.specs.Script.{hasMethod}
 use Rattle.rules.specs.Check.{within}
 use Rattle.script.proofs.Stacks.{blank}
 use Rattle.script.proofs.Walks.{call-goes, call-stops, call-ends}

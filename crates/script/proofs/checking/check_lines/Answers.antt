@@ -1,21 +1,20 @@
-use borrow.Author.Needs.{needs}
 use mathlib.Core.Path.{_≡_, refl, sym, ap, _∙_, subst}
 use mathlib.Core.Bool.{false}
-use mathlib.Core.List.{List, [], reverse}
-use Prim.Native.Nat.{ℕ, zero, suc, _+_, _<_, _≤_}
+use mathlib.Core.List.{List, reverse}
+use Prim.Native.Nat.{ℕ, zero, suc, _+_}
 use native.Mathlib.Omega.{arith}
 use lib.Dec.{ltb}
 use lib.ListN.{length, getD, drop, take, replicate}
-use Rattle.std.specs.declared.result.Result.the-variants.{Ok, Err}
+use Rattle.std.specs.declared.result.Result.the-variants.{Ok}
 use Rattle.std.proofs.shelf.Lists.{getD-default}
 use Rattle.std.proofs.shelf.Tests.{le-ltb}
 use Rattle.reversible.specs.Ledger.{rejected}
-use Rattle.rules.specs.Script.{Script, noLine, lineAt, whereIs}
+use Rattle.rules.specs.Script.{noLine, lineAt, whereIs}
 use Rattle.rules.specs.Check.{walked, judged}
 use Rattle.rules.specs.declared.Line.{Line}
 use Rattle.rules.specs.declared.Refusal.the-variants.{Unpaired}
 use Rattle.laws.proofs.Accepted.{judged-parts}
-use Rattle.script.specs.Reading.{openersOf, noted}
+use Rattle.script.specs.Reading.{openersOf}
 use Rattle.script.specs.Verdicts.{scriptFrom}
 use Rattle.script.proofs.Stacks.{blank, top}
 use Rattle.script.proofs.Walks.{Begun, judged-here, begun-next, goes-on, stops, left-open, all-closed}

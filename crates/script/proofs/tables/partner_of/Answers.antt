@@ -1,4 +1,4 @@
-use mathlib.Core.Path.{_≡_, sym, _∙_}
+use mathlib.Core.Path.{sym, _∙_}
 use native.Mathlib.Omega.{arith}
 use Rattle.script.proofs.Partners.{partner-opener, partner-closer, partner-none}
 use Rattle.script.proofs.tables.partner_of.Needs as need

@@ -1,7 +1,6 @@
 use borrow.Author.Needs.{needs}
 use mathlib.Core.Path.{_≡_, ap, _∙_}
-use mathlib.Core.List.{List, reverse, map, _++_}
-use native.Mathlib.Omega.{arith}
+use mathlib.Core.List.{reverse, map}
 use Rattle.std.proofs.shelf.Lists.{take-all, drop-all, append-nil}
 use Rattle.std.proofs.shelf.Edits.{map-over-more}
 use Rattle.rules.specs.Script.{turnedLine}

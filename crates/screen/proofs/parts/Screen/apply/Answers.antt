@@ -1,11 +1,11 @@
-use mathlib.Core.Path.{_≡_, refl, sym, ap, _∙_}
-use mathlib.Core.List.{List, _∷_, [], _++_}
+use mathlib.Core.Path.{_≡_, sym, ap, _∙_}
+use mathlib.Core.List.{List}
 use Prim.Native.Nat.{ℕ, _<_, _≤_}
 use native.Mathlib.Omega.{arith}
 use lib.IntN.{ℤ}
 use lib.ListN.{length}
-use Rattle.reversible.specs.Machine.{Outcome, done, refused}
-use Rattle.reversible.specs.Ledger.{Answer, Entry, Screen as Model, screen-apply}
+use Rattle.reversible.specs.Machine.{done}
+use Rattle.reversible.specs.Ledger.{Answer, Screen as Model, screen-apply}
 use Rattle.rules.specs.Ledger.{screenRules}
 use Rattle.rules.specs.Script.{Script}
 use Rattle.rules.specs.declared.Refusal.{Refusal}

@@ -1,17 +1,16 @@
-use mathlib.Core.Path.{_≡_, refl, sym, ap, _∙_}
-use mathlib.Core.List.{List, _∷_, [], _++_}
-use Prim.Native.Nat.{ℕ, _<_, _≤_, _-_}
+use mathlib.Core.Path.{_≡_, sym, ap, _∙_}
+use mathlib.Core.List.{List}
+use Prim.Native.Nat.{ℕ, _<_, _-_}
 use native.Mathlib.Omega.{arith}
 use lib.IntN.{ℤ}
-use lib.ListN.{length, getD}
-use Rattle.reversible.specs.Machine.{Outcome, done, refused, bwd, run}
+use lib.ListN.{length}
+use Rattle.reversible.specs.Machine.{Outcome, done, bwd, run}
 use Rattle.reversible.specs.Ledger.{Answer, Entry, last, Screen as Model, screen-backed}
 use Rattle.rules.specs.Ledger.{screenRules}
 use Rattle.rules.specs.Script.{Script}
 use Rattle.rules.specs.Run.{machine}
 use Rattle.rules.specs.declared.Refusal.{Refusal}
 use Rattle.script.specs.Programs.{scriptOf}
-use Rattle.screen.specs.declared.parts.Standing.{Standing}
 use Rattle.screen.specs.Model.{model, standingOf, three}
 use Rattle.screen.proofs.Models.{standing-length, standing-last, standing-struck, back-stands}
 use Rattle.screen.proofs.parts.Screen.back.Needs as need

@@ -1,8 +1,6 @@
-use mathlib.Core.Path.{_≡_, refl, sym, _∙_}
-use mathlib.Core.Logic.{_≢_}
-use Prim.Native.Nat.{ℕ, _<_}
+use mathlib.Core.Path.{refl, sym, _∙_}
 use native.Mathlib.Omega.{arith}
-use lib.ListN.{getD, replicate, getD-replicate}
+use lib.ListN.{getD-replicate}
 use Rattle.laws.proofs.Methods.{where-none}
 use Rattle.script.proofs.program.Program.empty.Needs as need
 
