@@ -123,7 +123,7 @@ fn read_terms(heap: Global, text: &str) -> Result<Option<Vec<Term>>, AllocError>
 }
 
 // The name of a case and the case, if the text is one.
-pub fn read_case(heap: Global, text: &str) -> Result<Option<(&str, Case)>, AllocError> {
+pub(crate) fn read_case(heap: Global, text: &str) -> Result<Option<(&str, Case)>, AllocError> {
     let Some((head, tables)) = text.split_once('|') else {
         return Ok(None);
     };

@@ -20,7 +20,7 @@ impl Instrument {
     pub const ALL: [Instrument; 3] = [Instrument::Bund, Instrument::Gilt, Instrument::Bobl];
 
     // The mark that keeps the instrument's price.
-    pub fn mark(self) -> u32
+    pub(crate) fn mark(self) -> u32
         ensures { λ r. ⌜ r ≡ mark self ⌝ }
     {
         match self {
@@ -30,7 +30,7 @@ impl Instrument {
         }
     }
 
-    pub fn name(self) -> &'static str {
+    pub(crate) fn name(self) -> &'static str {
         match self {
             Instrument::Bund => "bund",
             Instrument::Gilt => "gilt",
@@ -39,14 +39,14 @@ impl Instrument {
     }
 }
 
-pub fn price<S: Store>(store: &S, instrument: Instrument) -> Result<i32, Refusal>
+pub(crate) fn price<S: Store>(store: &S, instrument: Instrument) -> Result<i32, Refusal>
     ensures { λ r. ⌜ r ≡ readOf (book (now (store .entry))) (mark instrument) ⌝ }
 {
     store.read(instrument.mark())
 }
 
 // Writes a price into a store, and alters nothing else.
-pub fn post<S: Store>(store: &mut S, instrument: Instrument, ticks: i32) -> Result<(), Refusal>
+pub(crate) fn post<S: Store>(store: &mut S, instrument: Instrument, ticks: i32) -> Result<(), Refusal>
     ensures answer { λ r. ⌜ r ≡ writeOf (book (now (store .entry))) (mark instrument) ⌝ }
     ensures after { λ _. ⌜ book (now (store .exit)) ≡ set (book (now (store .entry))) (mark instrument) ticks ⌝ }
 {
@@ -54,7 +54,7 @@ pub fn post<S: Store>(store: &mut S, instrument: Instrument, ticks: i32) -> Resu
 }
 
 // Writes a price into a layer, and gives the move that shows it over the price below, which stays.
-pub fn move_to<S: Store>(
+pub(crate) fn move_to<S: Store>(
     layer: &mut Moves<S>,
     instrument: Instrument,
     ticks: i32,

@@ -8,7 +8,7 @@ use std::fmt;
 pub struct Told(pub Refusal);
 
 // What the number of a refusal means.
-pub fn meaning(number: u32) -> &'static str {
+pub(crate) fn meaning(number: u32) -> &'static str {
     match number {
         1 => "a table is too long",
         2 => "a kind, place or method is unknown, or an unused field is filled",

@@ -77,7 +77,7 @@ const MORE: u8 = 15;
 // Method 0 makes two legs, weighs and links them, lifts bund by three ticks four times over, and takes two ticks off gilt where
 // bund is then above 100; at the end it takes the weight off the second leg again. Method 1 weighs a leg, method 2 links it, method 3
 // lifts bund by seven.
-pub fn lift() -> [Line; 26] {
+pub(crate) fn lift() -> [Line; 26] {
     [
         bare(Kind::Begin, 0),
         places(Kind::New, Place::R(1), Place::None),
@@ -109,7 +109,7 @@ pub fn lift() -> [Line; 26] {
 }
 
 // The expressions of `lift`, and last m1 by itself.
-pub fn terms() -> [Term; 20] {
+pub(crate) fn terms() -> [Term; 20] {
     [
         number(5),
         number(0),
@@ -135,7 +135,7 @@ pub fn terms() -> [Term; 20] {
 }
 
 // A script that adds bund to itself, which cannot be taken back.
-pub fn doubled() -> [Line; 3] {
+pub(crate) fn doubled() -> [Line; 3] {
     [
         bare(Kind::Begin, 0),
         with(Kind::Add, Place::M(1), 19, 1),
@@ -144,6 +144,6 @@ pub fn doubled() -> [Line; 3] {
 }
 
 // More lines than a script may have.
-pub fn endless() -> [Line; 257] {
+pub(crate) fn endless() -> [Line; 257] {
     [bare(Kind::Begin, 0); 257]
 }

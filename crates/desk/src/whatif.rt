@@ -37,7 +37,7 @@ const SECOND_WEIGHT: u32 = 89;
 const FIRST_LINK: u32 = 85;
 
 // A card with three free records: bund at 100, gilt at -25.
-pub fn house<S: Store>(card: &mut S) {
+pub(crate) fn house<S: Store>(card: &mut S) {
     let _ = card.write(BUND, 100);
     let _ = card.write(GILT, -25);
     let _ = card.write(HEAD, 1);
@@ -120,7 +120,7 @@ fn take_off<S: Store>(rt: &LibcRuntime, screen: &mut Screen<S>) -> io::Result<()
 }
 
 // The desk tries its script on the card, under moves of its own, and hands the card back.
-pub fn try_script<S: Store + Drop>(rt: &LibcRuntime, card: S) -> io::Result<S> {
+pub(crate) fn try_script<S: Store + Drop>(rt: &LibcRuntime, card: S) -> io::Result<S> {
     let mut screen = Screen::open(Moves::over(card));
     tell(
         rt,
@@ -134,7 +134,7 @@ pub fn try_script<S: Store + Drop>(rt: &LibcRuntime, card: S) -> io::Result<S> {
 }
 
 // Lift is put on one seat's book. A second seat gets a copy of it and the turned script, and takes lift off there.
-pub fn second_seat<S: Store + Drop, T: Store + Drop>(
+pub(crate) fn second_seat<S: Store + Drop, T: Store + Drop>(
     rt: &LibcRuntime,
     card: S,
     mut copy: T,
@@ -161,7 +161,7 @@ pub fn second_seat<S: Store + Drop, T: Store + Drop>(
 }
 
 // The check by itself.
-pub fn checks(rt: &LibcRuntime) -> io::Result<()> {
+pub(crate) fn checks(rt: &LibcRuntime) -> io::Result<()> {
     tell_verdict(rt, "Check of lift", check(&lift(), &terms()))?;
     tell_verdict(
         rt,
@@ -216,7 +216,7 @@ fn replay<'a, S: Store + Drop, T: Store + Drop>(
     tell_all(rt, "The replies on words", &second)
 }
 
-pub fn rehearsal<S: Store + Drop, T: Store + Drop>(
+pub(crate) fn rehearsal<S: Store + Drop, T: Store + Drop>(
     rt: &LibcRuntime,
     card: S,
     words: T,

@@ -47,7 +47,7 @@ pub enum Command {
 }
 
 // The command that a line of text writes, or what was expected.
-pub fn parse(line: &str) -> Result<Command, &'static str> {
+pub(crate) fn parse(line: &str) -> Result<Command, &'static str> {
     let mut text = Text::new(line);
     match text.next() {
         None => Err("a command"),

@@ -26,7 +26,7 @@ pub struct Desk<R, W> {
 }
 
 impl<R: BufRead, W: Write> Desk<R, W> {
-    pub fn new(heap: Global, reader: R, out: W) -> Desk<R, W> {
+    pub(crate) fn new(heap: Global, reader: R, out: W) -> Desk<R, W> {
         Desk {
             reader,
             out,
@@ -39,18 +39,18 @@ impl<R: BufRead, W: Write> Desk<R, W> {
         }
     }
 
-    pub fn flush(&mut self) -> Result<(), Stop> {
+    pub(crate) fn flush(&mut self) -> Result<(), Stop> {
         self.out.flush()?;
         Ok(())
     }
 
     // A stop at the present line.
-    pub fn stop(&self, expected: &'static str) -> Stop {
+    pub(crate) fn stop(&self, expected: &'static str) -> Stop {
         Stop::Text(self.number, expected)
     }
 
     // The present line.
-    pub fn text(&self) -> Result<&str, Stop> {
+    pub(crate) fn text(&self) -> Result<&str, Stop> {
         match std::str::from_utf8(self.line.as_slice()) {
             Ok(text) => Ok(text),
             Err(_) => Err(self.stop("text")),
@@ -58,7 +58,7 @@ impl<R: BufRead, W: Write> Desk<R, W> {
     }
 
     // Writes the present line.
-    pub fn echo(&mut self) -> Result<(), Stop> {
+    pub(crate) fn echo(&mut self) -> Result<(), Stop> {
         self.out.write_all(self.line.as_slice())?;
         self.out.write_all(b"\n")?;
         Ok(())
@@ -86,7 +86,7 @@ impl<R: BufRead, W: Write> Desk<R, W> {
     }
 
     // The next command.
-    pub fn command(&mut self) -> Result<Command, Stop> {
+    pub(crate) fn command(&mut self) -> Result<Command, Stop> {
         if let Some(command) = self.waiting.take() {
             return Ok(command);
         }
@@ -105,7 +105,7 @@ impl<R: BufRead, W: Write> Desk<R, W> {
     }
 
     // Keeps a command that another is to carry out.
-    pub fn put_back(&mut self, command: Command) {
+    pub(crate) fn put_back(&mut self, command: Command) {
         self.waiting = Some(command);
     }
 }

@@ -25,7 +25,7 @@ use store::Words;
 use store::WordsStore;
 
 // Plays every session of the text.
-pub fn play<R: BufRead, W: Write>(desk: &mut Desk<R, W>, heap: Global) -> Result<(), Stop> {
+pub(crate) fn play<R: BufRead, W: Write>(desk: &mut Desk<R, W>, heap: Global) -> Result<(), Stop> {
     let mut words = Vec::new(heap);
     let mut bytes = Vec::new(heap);
     for _ in 0..u64::MAX {

@@ -10,7 +10,7 @@ use std::io::Write;
 use std::str::FromStr;
 
 // Makes a memory of n cells, 0 but for those that the words after the third of the present line name.
-pub fn fill<R: BufRead, W: Write, T: FromStr + Copy + Drop>(
+pub(crate) fn fill<R: BufRead, W: Write, T: FromStr + Copy + Drop>(
     desk: &Desk<R, W>,
     memory: &mut Vec<T>,
     n: u32,

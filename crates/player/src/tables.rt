@@ -13,7 +13,7 @@ use std::io::BufRead;
 use std::io::Write;
 
 // Carries out a command on the tables.
-pub fn on_tables<R: BufRead, W: Write>(
+pub(crate) fn on_tables<R: BufRead, W: Write>(
     desk: &mut Desk<R, W>,
     command: Command,
 ) -> Result<(), Stop> {
@@ -73,7 +73,7 @@ fn verdict<R: BufRead, W: Write>(
 }
 
 // Starts a session.
-pub fn begin<R: BufRead, W: Write>(desk: &mut Desk<R, W>) -> Result<(), Stop> {
+pub(crate) fn begin<R: BufRead, W: Write>(desk: &mut Desk<R, W>) -> Result<(), Stop> {
     if desk.running {
         return Err(desk.stop("the end of the session that runs"));
     }
@@ -83,7 +83,7 @@ pub fn begin<R: BufRead, W: Write>(desk: &mut Desk<R, W>) -> Result<(), Stop> {
 }
 
 // Ends the session.
-pub fn finish<R: BufRead, W: Write>(desk: &mut Desk<R, W>) -> Result<(), Stop> {
+pub(crate) fn finish<R: BufRead, W: Write>(desk: &mut Desk<R, W>) -> Result<(), Stop> {
     if !desk.running {
         return Err(desk.stop("a session to be started"));
     }

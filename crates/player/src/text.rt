@@ -11,12 +11,12 @@ pub struct Text<'a> {
 }
 
 impl<'a> Text<'a> {
-    pub fn new(line: &'a str) -> Text<'a> {
+    pub(crate) fn new(line: &'a str) -> Text<'a> {
         Text { rest: Some(line) }
     }
 
     // The next word, if there is one.
-    pub fn next(&mut self) -> Option<&'a str> {
+    pub(crate) fn next(&mut self) -> Option<&'a str> {
         let rest = self.rest?;
         match rest.split_once(' ') {
             Some((word, after)) => {
@@ -31,30 +31,30 @@ impl<'a> Text<'a> {
     }
 
     // That no word is left.
-    pub fn finish(&self) -> Result<(), &'static str> {
+    pub(crate) fn finish(&self) -> Result<(), &'static str> {
         match self.rest {
             None => Ok(()),
             Some(_) => Err("no more words"),
         }
     }
 
-    pub fn small(&mut self) -> Result<u8, &'static str> {
+    pub(crate) fn small(&mut self) -> Result<u8, &'static str> {
         read(self.next(), "a number from 0 to 255")
     }
 
-    pub fn medium(&mut self) -> Result<u16, &'static str> {
+    pub(crate) fn medium(&mut self) -> Result<u16, &'static str> {
         read(self.next(), "a number from 0 to 65535")
     }
 
-    pub fn large(&mut self) -> Result<u32, &'static str> {
+    pub(crate) fn large(&mut self) -> Result<u32, &'static str> {
         read(self.next(), "a number from 0 to 4294967295")
     }
 
-    pub fn signed(&mut self) -> Result<i32, &'static str> {
+    pub(crate) fn signed(&mut self) -> Result<i32, &'static str> {
         read(self.next(), "a number from -2147483648 to 2147483647")
     }
 
-    pub fn place(&mut self) -> Result<Place, &'static str> {
+    pub(crate) fn place(&mut self) -> Result<Place, &'static str> {
         let expected = "a place, as - or m1";
         match self.next() {
             None => Err(expected),
@@ -65,7 +65,7 @@ impl<'a> Text<'a> {
 }
 
 // A number that a word writes.
-pub fn read<F: FromStr + Drop>(
+pub(crate) fn read<F: FromStr + Drop>(
     word: Option<&str>,
     expected: &'static str,
 ) -> Result<F, &'static str>
