@@ -1,6 +1,6 @@
 -- The step as the code takes it is the step of the rules.
 use mathlib.Core.Path.{_≡_, refl, sym, ap, _∙_}
-use mathlib.Core.Bool.{Bool, true, false, not, cond, _&&_}
+use mathlib.Core.Bool.{Bool, true, false, not, cond}
 use Prim.Native.Nat.{ℕ, _≤_, _<_}
 use native.Mathlib.Omega.{arith}
 use lib.Dec.{eqb, ltb}
@@ -11,7 +11,7 @@ use Rattle.std.specs.declared.option.Option.the-variants.{Some, None}
 use Rattle.std.specs.declared.result.Result.{Result}
 use Rattle.std.specs.declared.result.Result.the-variants.{Ok, Err}
 use Rattle.std.proofs.shelf.Lists.{getD-past}
-use Rattle.std.proofs.shelf.Tests.{ltb-true, ltb-false, ne-eqb, eq-eqb, and-right}
+use Rattle.std.proofs.shelf.Tests.{ltb-true, ltb-false, ne-eqb, and-right}
 use Rattle.rules.specs.declared.Refusal.{Refusal}
 use Rattle.rules.specs.declared.Refusal.the-variants.{TestFailed, TooDeep, Unknown}
 use Rattle.rules.specs.declared.Line.{Line}
@@ -177,13 +177,6 @@ module _ (sc : Script) (s : State) (l : ℕ) (ln : Line) (at : Some (l, ln) ≡ 
 
 -- ---- the end of a run
 
-and-true : (t u : Bool) → u ≡ true → (t && u) ≡ t
-and-true true u e = e
-and-true false u e = refl
-
-module _ (sc : Script) (s : State) where
-  pub framed-not : (length (s .frames) ≡ 0 → ⊥) → finished sc s ≡ false
-  framed-not h = and-right (eqb (kindMet sc s) 1) (eqb (length (s .frames)) 0) (ne-eqb (length (s .frames)) 0 h)
-
-  pub unframed : length (s .frames) ≡ 0 → finished sc s ≡ eqb (kindMet sc s) 1
-  unframed h = and-true (eqb (kindMet sc s) 1) (eqb (length (s .frames)) 0) (eq-eqb (length (s .frames)) 0 h)
+-- not with a frame
+pub framed-not : (sc : Script) (s : State) → (length (s .frames) ≡ 0 → ⊥) → finished sc s ≡ false
+framed-not sc s h = and-right (eqb (kindMet sc s) 1) (eqb (length (s .frames)) 0) (ne-eqb (length (s .frames)) 0 h)

@@ -12,7 +12,7 @@ use Rattle.std.proofs.shelf.Tests.{cases-lt, cond-false, le-ltb, ne-eqb}
 use Rattle.rules.specs.Kinds.{code, kinds, kindOf}
 use Rattle.rules.specs.Step.{met}
 use Rattle.rules.specs.declared.Kind.{Kind}
-use Rattle.laws.proofs.Turning.{Each, each-at}
+use Rattle.laws.proofs.Turning.{each-at}
 
 abbrev coded : Option Kind → ℕ
 coded None = 18

@@ -6,13 +6,13 @@ use Prim.Native.Nat.{ℕ, _-_}
 use lib.Bits.{bitXor}
 use lib.Dec.{eqb, ltb}
 use lib.IntN.{ℤ, pos, _+ℤ_, _-ℤ_}
-use lib.ListN.{length, getD, take}
+use lib.ListN.{length, take}
 use Rattle.std.specs.declared.option.Option.{Option}
 use Rattle.std.specs.declared.option.Option.the-variants.{Some, None}
 use Rattle.std.specs.declared.result.Result.{Result}
 use Rattle.std.specs.declared.result.Result.the-variants.{Ok, Err}
 use Rattle.rules.specs.declared.Refusal.{Refusal}
-use Rattle.rules.specs.declared.Refusal.the-variants.{TestFailed, TooDeep, Unknown, Unpaired}
+use Rattle.rules.specs.declared.Refusal.the-variants.{TestFailed, TooDeep, Unpaired}
 use Rattle.rules.specs.declared.Kind.{Kind}
 use Rattle.rules.specs.declared.Kind.the-variants.{Begin, End, Add, Subtract, If, Fi, From, Until, Local, Delocal, New, Delete, Copy, Uncopy, Xor, Swap, Call, Uncall}
 use Rattle.rules.specs.declared.Place.{Place}

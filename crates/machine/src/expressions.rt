@@ -1,3 +1,5 @@
+// The values of expressions. Terms are taken from first to last; nothing is altered.
+
 ghost use mathlib.Core.Path.{_≡_};
 ghost use Rattle.rules.specs.Expression.{operated, taken};
 ghost use Rattle.rules.specs.Step.{see as seen, value as valueOf};

@@ -1,3 +1,5 @@
+// The sixteen operators.
+
 ghost use mathlib.Core.Path.{_≡_};
 ghost use Rattle.rules.specs.Word.{operate as operated, truth};
 use rules::Refusal;

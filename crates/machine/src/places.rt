@@ -1,3 +1,5 @@
+// Where places lie, and the words that lie there.
+
 ghost use mathlib.Core.Path.{_≡_};
 ghost use mathlib.Core.List.{[]};
 ghost use lib.IntN.{pos};

@@ -1,3 +1,5 @@
+// Where a run starts, and how the machine is turned round.
+
 ghost use mathlib.Core.Path.{_≡_};
 ghost use mathlib.Core.List.{[]};
 ghost use Rattle.rules.specs.Step.{flipped};

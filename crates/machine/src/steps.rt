@@ -1,3 +1,5 @@
+// One step: the line whose turn it is, the values of its tests, and one choice by kind, direction and values.
+
 ghost use mathlib.Core.Path.{_≡_};
 ghost use mathlib.Core.List.{[]};
 ghost use Prim.Native.Nat.{_<_};
@@ -114,12 +116,9 @@ fn far_value<S: Store>(
     ensures { λ r. ⌜ r ≡ farValue (met (now (work .entry) .forward) (code kind)) (scriptOf (now (program .entry))) l (state (now (work .entry)) (book (now (store .entry)))) own ⌝ }
 {
     match (kind, work.forward) {
-        (Kind::If | Kind::Until, true) | (Kind::Fi | Kind::From, false) if own == 0 => value(
-            store,
-            work,
-            program,
-            partner(program, l),
-        ),
+        (Kind::If | Kind::Until, true) | (Kind::Fi | Kind::From, false) if own == 0 => {
+            value(store, work, program, partner(program, l))
+        }
         _ => Ok(0),
     }
 }
@@ -158,24 +157,17 @@ fn act<S: Store>(
         (Kind::Begin, false) | (Kind::End, true) => come_back(store, work, program),
         (Kind::Add, true) | (Kind::Subtract, false) => raise(store, work, l, line.x, own),
         (Kind::Add, false) | (Kind::Subtract, true) => lower(store, work, l, line.x, own),
-        (Kind::If, true) | (Kind::Fi, false) if own != 0 => go_past(store, work, l),
-        (Kind::If, true) | (Kind::Fi, false) if far == 0 => go_past(
-            store,
-            work,
-            partner(program, l),
-        ),
-        (Kind::If, true) | (Kind::Fi, false) => Err(Refusal::TestFailed),
-        (Kind::Fi, true) | (Kind::If, false) if own != 0 => go_past(store, work, l),
-        (Kind::Fi, true) | (Kind::If, false) => Err(Refusal::TestFailed),
-        (Kind::From, true) | (Kind::Until, false) if own != 0 => go_past(store, work, l),
-        (Kind::From, true) | (Kind::Until, false) => Err(Refusal::TestFailed),
-        (Kind::Until, true) | (Kind::From, false) if own != 0 => go_past(store, work, l),
-        (Kind::Until, true) | (Kind::From, false) if far == 0 => go_past(
-            store,
-            work,
-            partner(program, l),
-        ),
-        (Kind::Until, true) | (Kind::From, false) => Err(Refusal::TestFailed),
+        (Kind::If | Kind::Until, true) | (Kind::Fi | Kind::From, false) if own != 0 => {
+            go_past(store, work, l)
+        }
+        (Kind::If | Kind::Until, true) | (Kind::Fi | Kind::From, false) if far == 0 => {
+            go_past(store, work, partner(program, l))
+        }
+        (Kind::If | Kind::Until, true) | (Kind::Fi | Kind::From, false) => Err(Refusal::TestFailed),
+        (Kind::Fi | Kind::From, true) | (Kind::If | Kind::Until, false) if own != 0 => {
+            go_past(store, work, l)
+        }
+        (Kind::Fi | Kind::From, true) | (Kind::If | Kind::Until, false) => Err(Refusal::TestFailed),
         (Kind::Local, true) | (Kind::Delocal, false) => open_local(store, work, l, own),
         (Kind::Local, false) | (Kind::Delocal, true) => close_local(store, work, l, own),
         (Kind::New, true) | (Kind::Delete, false) => allocate(store, work, l, line.x),

@@ -1,15 +1,13 @@
 -- A walk from the start of a run gives its outcome; a refused one is rolled back, since every step of an allowed script leads back.
-use mathlib.Core.Path.{_≡_, refl, sym, ap, _∙_}
+use mathlib.Core.Path.{_≡_, sym, ap, _∙_}
 use mathlib.Core.Bool.{Bool, true, false}
-use mathlib.Core.List.{List, []}
-use mathlib.Core.Logic.{_⊎_, inl, inr, ⊎-elim}
+use mathlib.Core.List.{List}
 use Prim.Native.Nat.{ℕ, zero, suc, _+_}
 use native.Mathlib.Omega.{arith}
 use lib.IntN.{ℤ}
-use lib.ListN.{length}
 use Rattle.std.specs.declared.result.Result.{Result}
 use Rattle.std.specs.declared.result.Result.the-variants.{Ok, Err}
-use Rattle.reversible.specs.Machine.{Next, finish, go, stop, Dir, How, ended, spent, bad, Walk, Outcome, done, refused, walk, undo, outcome, conclude, run-from}
+use Rattle.reversible.specs.Machine.{Next, finish, go, stop, Dir, How, ended, spent, bad, refused, walk, undo, outcome, run-from}
 use Rattle.reversible.specs.Ledger.{accepted}
 use Rattle.reversible.proofs.Runs.{Steps, Rests, walk-rests, steps-back, undo-back}
 use Rattle.rules.specs.declared.Refusal.{Refusal}
@@ -21,7 +19,7 @@ use Rattle.rules.specs.Check.{checked}
 use Rattle.rules.specs.Step.{State, step, finished, flipped, turnOf}
 use Rattle.rules.specs.Run.{next, machine}
 use Rattle.laws.proofs.Lawful.{Inv, lawful, to-T}
-use Rattle.runs.specs.Walks.{said, Halt, halt, halted, stepped}
+use Rattle.runs.specs.Walks.{said, halt, halted, stepped}
 
 step-from : (sc : Script) (s t : State) → next sc s ≡ go t → step sc s ≡ Ok t
 step-from sc s t e = by (finished sc s) (step sc s) e

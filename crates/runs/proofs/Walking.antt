@@ -1,11 +1,11 @@
 -- A walk, step by step.
 use mathlib.Core.Path.{_≡_, refl, sym, ap, _∙_}
-use mathlib.Core.Bool.{Bool, true, false}
+use mathlib.Core.Bool.{true, false}
 use Prim.Native.Nat.{ℕ, zero, suc, _+_, _-_, _<_}
 use native.Mathlib.Omega.{arith}
 use Rattle.std.specs.declared.result.Result.{Result}
 use Rattle.std.specs.declared.result.Result.the-variants.{Ok, Err}
-use Rattle.reversible.specs.Machine.{Next, finish, go, stop, How, Walk, rest, bump, at-rest, onward, walk}
+use Rattle.reversible.specs.Machine.{go, stop, at-rest, onward, walk}
 use Rattle.rules.specs.declared.Refusal.{Refusal}
 use Rattle.rules.specs.declared.Refusal.the-variants.{OutOfBudget}
 use Rattle.rules.specs.Answer.{either}
@@ -14,7 +14,7 @@ use Rattle.rules.specs.Step.{State, step, finished}
 use Rattle.rules.specs.Run.{next, machine}
 use Rattle.laws.proofs.Lawful.{next-from, next-end}
 use Rattle.machine.specs.View.{After}
-use Rattle.runs.specs.Walks.{said, Halt, halt, halted, stepped}
+use Rattle.runs.specs.Walks.{said, halt, halted, stepped}
 
 halt-steps : (r : Result (Unit {0}) Refusal) (n m : ℕ) (s : State) → n ≡ m → halt r n s ≡ halt r m s
 halt-steps r n m s e = ap (λ k. halt r k s) e

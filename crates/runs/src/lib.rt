@@ -137,7 +137,27 @@ pub fn run<S: Store>(store: &mut S, program: &Program, q: u32, forward: bool, bu
     run_from(store, &mut work, program, q, forward, budget)
 }
 
-// Runs method q on two stores, each with a budget of its own.
+// The two runs, one after the other.
+fn run_each<A: Store, B: Store>(
+    a: &mut A,
+    b: &mut B,
+    program: &Program,
+    q: u32,
+    forward: bool,
+    x: u32,
+    y: u32,
+) -> (Ending, Ending)
+    ensures first { λ r. ⌜ told (r .0) (A·Store .book (now (a .exit))) ≡ runOf (machine (scriptOf (now (program .entry)))) q (facing forward) (A·Store .book (now (a .entry))) x ⌝ }
+    ensures second { λ r. ⌜ told (r .1) (B·Store .book (now (b .exit))) ≡ runOf (machine (scriptOf (now (program .entry)))) q (facing forward) (B·Store .book (now (b .entry))) y ⌝ }
+{
+    (
+        run(a, program, q, forward, x),
+        run(b, program, q, forward, y),
+    )
+}
+
+// Runs method q on two stores, each with a budget of its own. Where both runs finish, the books are equal after exactly when
+// they were equal before.
 pub fn run_both<A: Store, B: Store>(
     a: &mut A,
     b: &mut B,
@@ -151,8 +171,5 @@ pub fn run_both<A: Store, B: Store>(
     ensures second { λ r. ⌜ told (r .1) (B·Store .book (now (b .exit))) ≡ runOf (machine (scriptOf (now (program .entry)))) q (facing forward) (B·Store .book (now (b .entry))) y ⌝ }
     ensures apart { λ r. ⌜ Apart (r .0) (r .1) (A·Store .book (now (a .entry))) (B·Store .book (now (b .entry))) (A·Store .book (now (a .exit))) (B·Store .book (now (b .exit))) ⌝ }
 {
-    (
-        run(a, program, q, forward, x),
-        run(b, program, q, forward, y),
-    )
+    run_each(a, b, program, q, forward, x, y)
 }

@@ -26,10 +26,10 @@ stay-apart sc ok q d x y (Refused r l n) (Refused s k m) a b a′ b′ e f = tt
 pub returns : need.returns
 returns g c =
     let p = c .args .program .now in
-    let first = c .run .ensures .outcome in
-    let second = c .run-2 .ensures .outcome in
+    let first = c .run-each .ensures .first in
+    let second = c .run-each .ensures .second in
     record {
       first = first;
       second = second;
-      apart = stay-apart (scriptOf p) (accepted-from (scriptOf p) (p .right)) (c .args .q) (facing (c .args .forward)) (c .args .x) (c .args .y) (c .run .result) (c .run-2 .result) _ _ _ _ first second;
+      apart = stay-apart (scriptOf p) (accepted-from (scriptOf p) (p .right)) (c .args .q) (facing (c .args .forward)) (c .args .x) (c .args .y) (c .run-each .result .0) (c .run-each .result .1) _ _ _ _ first second;
     }

@@ -1,4 +1,3 @@
-use borrow.Author.Needs.{needs}
 use Rattle.machine.proofs.Words.{refused-zero}
 use Rattle.machine.proofs.places.word_at.Needs as need
 

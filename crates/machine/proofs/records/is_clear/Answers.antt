@@ -1,4 +1,3 @@
-use borrow.Author.Needs.{needs}
 use mathlib.Core.Path.{sym, _∙_}
 use Rattle.machine.proofs.Clears.{clear-more, clear-not}
 use Rattle.machine.proofs.records.is_clear.Needs as need

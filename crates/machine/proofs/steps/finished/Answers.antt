@@ -1,11 +1,10 @@
 use borrow.Author.Needs.{needs}
-use mathlib.Core.Path.{_≡_, sym, ap, _∙_}
+use mathlib.Core.Path.{sym, _∙_}
 use mathlib.Core.List.{[]}
-use lib.ListN.{length}
 use Rattle.script.specs.Programs.{scriptOf}
 use Rattle.machine.specs.View.{state}
 use Rattle.machine.proofs.Lists.{count-is}
-use Rattle.machine.proofs.Chosen.{framed-not, unframed}
+use Rattle.machine.proofs.Chosen.{framed-not}
 use Rattle.machine.proofs.steps.finished.Needs as need
 
 pub returns-then-work-ne0 : need.returns-then-work-ne0
