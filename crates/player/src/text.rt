@@ -74,18 +74,24 @@ where
 {
     match word {
         None => Err(expected),
-        Some(digits) => match digits.parse::<F>() {
-            Ok(number) => Ok(number),
-            Err(_) => Err(expected),
-        },
+        Some(digits) => decimal(digits).ok_or(expected),
     }
+}
+
+// A number in digits, with no plus in front.
+fn decimal<F: FromStr + Drop>(digits: &str) -> Option<F>
+where
+    F::Err: Drop,
+{
+    if digits.starts_with('+') {
+        return None;
+    }
+    digits.parse::<F>().ok()
 }
 
 // The place that a word writes by a letter and an index.
 fn lettered(word: &str) -> Option<Place> {
     let (letter, digits) = word.split_at_checked(1)?;
-    match digits.parse::<u8>() {
-        Ok(index) => place_of(*letter.as_bytes().first()?, index),
-        Err(_) => None,
-    }
+    let index = decimal(digits)?;
+    place_of(*letter.as_bytes().first()?, index)
 }
