@@ -46,7 +46,11 @@ pub(crate) fn price<S: Store>(store: &S, instrument: Instrument) -> Result<i32, 
 }
 
 // Writes a price into a store, and alters nothing else.
-pub(crate) fn post<S: Store>(store: &mut S, instrument: Instrument, ticks: i32) -> Result<(), Refusal>
+pub(crate) fn post<S: Store>(
+    store: &mut S,
+    instrument: Instrument,
+    ticks: i32,
+) -> Result<(), Refusal>
     ensures answer { λ r. ⌜ r ≡ writeOf (book (now (store .entry))) (mark instrument) ⌝ }
     ensures after { λ _. ⌜ book (now (store .exit)) ≡ set (book (now (store .entry))) (mark instrument) ticks ⌝ }
 {
