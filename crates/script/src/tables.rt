@@ -114,6 +114,14 @@ fn partner_of(lines: &[Line], k: usize) -> usize
     }
 }
 
+// The partner of line k as the table keeps it.
+fn partner_entry(lines: &[Line], k: usize) -> u16
+    requires { ⌜ k < length (now lines) ⌝ ∗ ⌜ length (now lines) ≤ 256 ⌝ }
+    ensures { λ r. ⌜ r ≡ partner (now (lines .entry)) k ⌝ }
+{
+    partner_of(lines, k) as u16
+}
+
 // The partner of each line.
 pub(crate) fn partners(lines: &[Line]) -> [u16; 256]
     requires { ⌜ length (now lines) ≤ 256 ⌝ }
@@ -121,7 +129,7 @@ pub(crate) fn partners(lines: &[Line]) -> [u16; 256]
 {
     let mut table: [u16; 256] = [0; 256];
     for k in 0..lines.len() {
-        table[k] = partner_of(lines, k) as u16;
+        table[k] = partner_entry(lines, k);
     }
     table
 }

@@ -11,5 +11,5 @@ loop-k-again c =
       length-set t k _ ∙ c .loop-k .inv .0,
       below-more _ k
           (λ i h. getD-set-other t k i _ 0 (omega arith) ∙ c .loop-k .inv .1 i h)
-          (getD-set-same t k _ 0 (omega (arith, c .loop-k .inv .0)) ∙ c .partner-of .ensures .value),
+          (getD-set-same t k _ 0 (omega (arith, c .loop-k .inv .0)) ∙ c .partner-entry .ensures),
     )
