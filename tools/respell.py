@@ -88,7 +88,9 @@ def main():
     for path in antt() + files(["src/**/*.rt"]):
         with open(path, encoding="utf-8") as f:
             text = f.read()
-        new = whole.sub(lambda m: names.get(m.group(0), m.group(0)), text) if path.endswith(".rt") else by_name.sub(lambda m: names[m.group(0)], text)
+        # a name of Rattle's own library that this file brings in stays
+        std = {n for names_of in re.findall(r"^(?:ghost )?use Rattle\.std\.[^{\n]*\{([^}]*)\}", text, re.M) for n in re.split(r",\s*| as ", names_of.strip())}
+        new = (whole if path.endswith(".rt") else by_name).sub(lambda m: m.group(0) if m.group(0) in std else names.get(m.group(0), m.group(0)), text)
         if new != text:
             with open(path, "w", encoding="utf-8") as f:
                 f.write(new)

@@ -2,6 +2,8 @@
 // with calls, and a run that is refused at its end and stepped back. What the runs give goes to standard output, the rates go to standard
 // error. `bench 1000` runs each loop a thousand times as long, and `bench 1000 walk bytes` runs that one alone.
 
+#![tactic(auto)]
+
 mod measures;
 mod scripts;
 

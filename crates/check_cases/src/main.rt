@@ -2,6 +2,8 @@
 // A case is a text line `NAME REFUSAL LINE | lines | terms`, with `;` between items and `N*` before one that stands N times. A line is
 // `KIND X Y Q FIRST COUNT`, a term `KIND NUMBER P1 P2`, a place `-` or a letter with its index. `#` starts a comment.
 
+#![tactic(auto)]
+
 mod reading;
 
 use reading::{Case, read_case};

@@ -1,5 +1,7 @@
 // Calls on any store, proved once from what a store means.
 
+#![tactic(auto)]
+
 ghost use Rattle.std.specs.Prelude.{◌≡◌};
 ghost use Rattle.client.specs.Client.{add_answer, added, copy_word_answer, word_copied, copy_answer, copied};
 
@@ -11,8 +13,8 @@ use store::{Store, sum};
 
 // Adds to word w, modulo 2^32, and gives the sum. A refusal alters nothing.
 pub fn add_to_word<S: Store>(store: &mut S, w: u32, by: i32) -> Result<i32, Refusal>
-    ensures answer { result ≡ add_answer (book store.old) w by }
-    ensures after { book store.new ≡ added (book store.old) w by }
+    ensures answer { result ≡ add_answer (S.Store.book store.old) w by }
+    ensures after { S.Store.book store.new ≡ added (S.Store.book store.old) w by }
 {
     let total = sum(store.read(w)?, by);
     store.write(w, total)?;

@@ -1,6 +1,8 @@
 // A day at a desk. The house keeps its prices on a card of bytes. A desk lays its moves over the card, and a trader lays more over the
 // desk's. When the moves are taken off again, the card shows what the house wrote.
 
+#![tactic(auto)]
+
 mod refusals;
 mod scripts;
 mod whatif;

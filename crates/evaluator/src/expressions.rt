@@ -26,7 +26,7 @@ fn take_operator(kind: u8, stack: &mut Stack) -> Result<(), Refusal>
 }
 
 fn take_term<S: Store>(store: &S, work: &Work, t: Term, stack: &mut Stack) -> Result<(), Refusal>
-    ensures { Pushed result (waiting stack.new) (taken t (seen (state work.now (book store.now)) t.first) (seen (state work.now (book store.now)) t.second) (waiting stack.old)) }
+    ensures { Pushed result (waiting stack.new) (taken t (seen (state work.now (S.Store.book store.now)) t.first) (seen (state work.now (S.Store.book store.now)) t.second) (waiting stack.old)) }
 {
     match t.kind {
         0 => stack.push(t.number),
@@ -49,7 +49,7 @@ fn take_term<S: Store>(store: &S, work: &Work, t: Term, stack: &mut Stack) -> Re
 
 // The value of the expression of line l.
 pub fn value<S: Store>(store: &S, work: &Work, program: &Program, l: u16) -> Result<i32, Refusal>
-    ensures { result ≡ value_of (script_of program.now) (state work.now (book store.now)) l }
+    ensures { result ≡ value_of (script_of program.now) (state work.now (S.Store.book store.now)) l }
 {
     let line = line_at(program, l as u32);
     let end = (line.first as usize + line.count as usize).min(program.size);

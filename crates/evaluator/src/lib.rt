@@ -1,5 +1,7 @@
 // Where places lie, the words that lie there, and the values of expressions, over any store.
 
+#![tactic(auto)]
+
 mod expressions;
 mod operands;
 mod operators;

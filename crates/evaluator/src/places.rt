@@ -42,7 +42,7 @@ pub fn find(work: &Work, p: Place) -> Result<Spot, Refusal>
 
 // Word w of the book, 0 if there is none.
 pub fn word_at<S: Store>(store: &S, w: u32) -> i32
-    ensures { result ≡ slice_index_or (book store.now) w (pos 0) }
+    ensures { result ≡ slice_index_or (S.Store.book store.now) w (pos 0) }
 {
     match store.read(w) {
         Ok(v) => v,
@@ -51,13 +51,13 @@ pub fn word_at<S: Store>(store: &S, w: u32) -> i32
 }
 
 pub fn put_word<S: Store>(store: &mut S, w: u32, v: i32)
-    ensures { book store.new ≡ slice_set (book store.old) w v }
+    ensures { S.Store.book store.new ≡ slice_set (S.Store.book store.old) w v }
 {
     let _ = store.write(w, v);
 }
 
 pub fn read_at<S: Store>(store: &S, work: &Work, s: Spot) -> i32
-    ensures { result ≡ read (state work.now (book store.now)) s }
+    ensures { result ≡ read (state work.now (S.Store.book store.now)) s }
 {
     match s {
         Spot::InBook(w) => word_at(store, w),
@@ -67,7 +67,7 @@ pub fn read_at<S: Store>(store: &S, work: &Work, s: Spot) -> i32
 }
 
 pub fn write_at<S: Store>(store: &mut S, work: &mut Work, s: Spot, v: i32)
-    ensures { state work.new (book store.new) ≡ write s v (state work.old (book store.old)) }
+    ensures { state work.new (S.Store.book store.new) ≡ write s v (state work.old (S.Store.book store.old)) }
 {
     match s {
         Spot::InBook(w) => put_word(store, w, v),
@@ -78,7 +78,7 @@ pub fn write_at<S: Store>(store: &mut S, work: &mut Work, s: Spot, v: i32)
 
 // What a place holds.
 pub(crate) fn see<S: Store>(store: &S, work: &Work, p: Place) -> Result<i32, Refusal>
-    ensures { result ≡ seen (state work.now (book store.now)) p }
+    ensures { result ≡ seen (state work.now (S.Store.book store.now)) p }
 {
     let s = find(work, p)?;
     Ok(read_at(store, work, s))

@@ -1,5 +1,7 @@
 // What a place, a term, an expression and a line of each kind must be, each by itself.
 
+#![tactic(auto)]
+
 ghost use Rattle.std.specs.Prelude.{◌≡◌};
 ghost use Rattle.rules.specs.Kinds.{code};
 ghost use Rattle.rules.specs.Script.{is_none, alike as are_alike};

@@ -2,7 +2,7 @@
 use Rattle.std.proofs.Common.{◌≡◌, ℕ, zero, suc, ◌+◌, ◌-◌, ◌*◌, ◌%◌, ◌<◌, ◌≤◌, Bool, true, false, cond, not, ◌&&◌, ◌||◌, eqb, ltb, leb, ◌⊎◌, List, [], ◌∷◌, length, ℤ, Ok, Err, sym, refl, ap, ◌∙◌, subst, inl, inr, ⊎_elim, arith}
 use Rattle.std.specs.List.{AllByRecursion as All}
 use Rattle.std.proofs.lemmas.List.{get_or_past}
-use Rattle.std.proofs.lemmas.Bool.{and_parts, or_cases, not_true, ltb-true, leb-true, eqb-true, le_leb, cond-true, cases_lt, false≢true, both_ways}
+use Rattle.std.proofs.lemmas.Bool.{and_parts, or_cases, not-true, ltb-true, leb-true, eqb-true, le-leb, cond-true, cases_lt, false≢true, both_ways}
 use Rattle.rules.specs.Book.{records, record_at, fits, all_words, is_book}
 use Rattle.rules.specs.Script.{Script, line_at, is_none, alike, turned_kind, terms_of, bracket, where_is}
 use Rattle.rules.specs.Check.{known, sort, reaches, names, form_of, form, among, within, terms_form, expression_form, apart, depth, checked}
@@ -110,7 +110,7 @@ module _ (sc : Script) (l : ℕ) (F : Found sc l) where
       (and_parts (is_none ln.x || not (names ln.x (terms_of sc.terms ln))) _ F.separate).1
 
   unnamed : is_none ln.x ≡ false → names ln.x (terms_of sc.terms ln) ≡ false
-  unnamed n = ⊎_elim (λ t. absurd (both_ways (is_none ln.x) n t)) (λ t. not_true _ t) (or_cases (is_none ln.x) _ (and_parts (is_none ln.x || not (names ln.x (terms_of sc.terms ln))) _ F.separate).0)
+  unnamed n = ⊎_elim (λ t. absurd (both_ways (is_none ln.x) n t)) (λ t. not-true _ t) (or_cases (is_none ln.x) _ (and_parts (is_none ln.x || not (names ln.x (terms_of sc.terms ln))) _ F.separate).0)
 
   sound : (d : ℕ) → expression_form sc.terms d ln ≡ true → All (Sound d) (terms_of sc.terms ln)
   sound d e = terms_sound d _ (and_parts (terms_form d (terms_of sc.terms ln)) _ (and_parts (leb (ln.first + ln.count) (length sc.terms)) _ (and_parts (within 1 32 ln.count) _ e).1).1).0
@@ -211,7 +211,7 @@ module _ (sc : Script) (ok : checked sc ≡ accepted) (q : ℕ) (d : Bool) where
         let x = (line_at sc.lines l).x in
         let y = (line_at sc.lines l).y in
         let differ : not (alike x y) ≡ true = subst (λ t. (not t || not (alike x y)) ≡ true) w (apart_as sc l found_l j h) in
-        record { two = asks_two (ap bracket h ∙ b); apart = λ u v at₁ at₂. places-apart s.present (base s.frames) x y u v (known_x sc l found_l) (known_y sc l found_l) (not_true (alike x y) differ) at₁ at₂ }
+        record { two = asks_two (ap bracket h ∙ b); apart = λ u v at₁ at₂. places-apart s.present (base s.frames) x y u v (known_x sc l found_l) (known_y sc l found_l) (not-true (alike x y) differ) at₁ at₂ }
 
     asks_calls : ((line_at sc.lines l).kind ≡ 16) ⊎ ((line_at sc.lines l).kind ≡ 17) → Calls sc l s
     asks_calls kinds = record { exists = by (method_of sc ok (line_at sc.lines l).q (calls_method sc ok l inside kinds)) }
@@ -229,7 +229,7 @@ module _ (sc : Script) (ok : checked sc ≡ accepted) (q : ℕ) (d : Bool) where
           let m : cur sc q s.frames ≡ (line_at sc.lines f.line).q = ap (cur sc q) tops in (
             (let e = deep in omega arith),
             L.few,
-            (L.same, λ y. let (more, real) = L.real y in (more, cond-true (leb s.present (records s.book)) _ _ (le_leb s.present (records s.book) real))),
+            (L.same, λ y. let (more, real) = L.real y in (more, cond-true (leb s.present (records s.book)) _ _ (le-leb s.present (records s.book) real))),
             subst (λ x. entry sc (not fw) x ≡ s.position) m (place ∙ sym here),
             L.calls,
           );

@@ -1,7 +1,7 @@
 -- The kind that a number stands for has that number.
 use Rattle.std.proofs.Common.{◌≡◌, ℕ, ◌<◌, ◌≤◌, Bool, true, false, eqb, ltb, leb, Some, None, Option, sym, refl, ap, ◌∙◌, ⊎_elim, arith}
 use Rattle.std.proofs.lemmas.List.{get_or_past}
-use Rattle.std.proofs.lemmas.Bool.{cases_lt, cond-false, le_leb, le-ltb, ne_eqb}
+use Rattle.std.proofs.lemmas.Bool.{cases_lt, cond-false, le-leb, le-ltb, ne_eqb}
 use Rattle.rules.specs.Kinds.{code, kinds, kind_of}
 use Rattle.rules.specs.Step.{met}
 use Rattle.rules.specs.declared.Kind.{Kind}
@@ -26,7 +26,7 @@ code_of n k e = ⊎_elim (λ h. ap coded e ∙ low n h) (λ h. let p = high n h 
 pub code_low : (n : ℕ) (k : Kind) → Some k ≡ kind_of n → leb (code k) 17 ≡ true
 code_low n k e =
     let c = code_of n k e in
-    le_leb (code k) 17 (⊎_elim (λ h. omega arith) (λ h. let p = high n h in let z : ◌≡◌ {A = ℕ} 0 1 = cc in absurd (omega arith)) (cases_lt n 18))
+    le-leb (code k) 17 (⊎_elim (λ h. omega arith) (λ h. let p = high n h in let z : ◌≡◌ {A = ℕ} 0 1 = cc in absurd (omega arith)) (cases_lt n 18))
 
 pub no_code : (n : ℕ) → None ≡ kind_of n → 18 ≤ n
 no_code n e = ⊎_elim (λ h. let p = ap coded e ∙ low n h in absurd (omega arith)) (λ h. h) (cases_lt n 18)

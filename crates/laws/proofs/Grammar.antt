@@ -2,7 +2,7 @@
 use Rattle.std.proofs.Common.{◌≡◌, ℕ, suc, ◌+◌, ◌-◌, ◌<◌, Bool, true, false, cond, not, ◌&&◌, ◌||◌, eqb, leb, ◌⊎◌, List, [], ◌∷◌, ◌++◌, length, Ok, Result, sym, refl, ap, ◌∙◌, subst, ap₂, inl, inr, ⊎_elim, arith}
 use mathlib.Core.List.{tail}
 use Rattle.std.proofs.lemmas.List.{append_assoc, append-nil, length-append, get_or_at}
-use Rattle.std.proofs.lemmas.Bool.{and_parts, and_from, or_left, or_right, eqb-true, eq-eqb, ne_eqb, not_from_false, not_from_true, leb-true, le_leb, lt-ltb, ltb-true, cond-true, cases_eq, false≢true}
+use Rattle.std.proofs.lemmas.Bool.{and_parts, and_from, or_left, or_right, eqb-true, eq-eqb, ne_eqb, not_from_false, not_from_true, leb-true, le-leb, lt-ltb, ltb-true, cond-true, cases_eq, false≢true}
 use Rattle.reversible.specs.Ledger.{Verdict, accepted, rejected}
 use Rattle.rules.specs.Answer.{◌>>=◌, need, either}
 use Rattle.rules.specs.Script.{Script, no_line, line_at, bracket, opens, closes, where_is, has_method}
@@ -277,7 +277,7 @@ within_calls l w =
 
 pub accepted_from : (sc : Script) → Allowed sc → checked sc ≡ accepted
 accepted_from sc all =
-    cond-true (small sc) _ _ (and_from (leb (length sc.lines) 256) _ (le_leb (length sc.lines) 256 all.lines) (le_leb (length sc.terms) 1024 all.terms))
+    cond-true (small sc) _ _ (and_from (leb (length sc.lines) 256) _ (le-leb (length sc.lines) 256 all.lines) (le-leb (length sc.terms) 1024 all.terms))
     ∙ over_methods sc all all.methods [] refl
     ∙ calls_from sc 0 sc.lines has
   where

@@ -1,7 +1,7 @@
 -- new and delete undo one another.
 use Rattle.std.proofs.Common.{◌≡◌, ℕ, ◌+◌, ◌-◌, ◌<◌, ◌≤◌, Bool, true, false, not, ◌&&◌, ltb, ◌⊎◌, List, length, get_or, set, ℤ, pos, nat_abs, Ok, Result, sym, refl, ap, ◌∙◌, ap₂, inl, inr, arith, length-set}
 use Rattle.std.proofs.lemmas.List.{get_or-set_same, get_or-set_other}
-use Rattle.std.proofs.lemmas.Bool.{cases_lt, and_parts, and_from, ltb-true, leb-true, lt-ltb, le_leb, not_true, both_ways, ne_eqb, not_from_false}
+use Rattle.std.proofs.lemmas.Bool.{cases_lt, and_parts, and_from, ltb-true, leb-true, lt-ltb, le-leb, not-true, both_ways, ne_eqb, not_from_false}
 use Rattle.rules.specs.Answer.{◌>>=◌, need}
 use Rattle.rules.specs.Word.{eq_z}
 use Rattle.rules.specs.Book.{record_at, named, clear}
@@ -67,7 +67,7 @@ module _ (b : List ℤ) (k w : ℕ) (low : 0 < w) (high : w < length b) (room : 
       ∙ restored b 0 j w (get_or b j (pos 0)) (pos 0) (pos k) (omega arith) (omega arith) (λ e. out (omega arith) (omega arith))
 
 outside_of : (k w : ℕ) → not (inside (InBook w) k) ≡ true → record_at k ≤ w → w < record_at k + 8 → ⊥
-outside_of k w h p q = both_ways (inside (InBook w) k) (not_true (inside (InBook w) k) h) (and_from _ _ (le_leb (record_at k) w p) (lt-ltb w (record_at k + 8) q))
+outside_of k w h p q = both_ways (inside (InBook w) k) (not-true (inside (InBook w) k) h) (and_from _ _ (le-leb (record_at k) w p) (lt-ltb w (record_at k + 8) q))
 
 not_from : (t : Bool) → (t ≡ true → ⊥) → not t ≡ true
 not_from true h = absurd (h refl)

@@ -1,5 +1,7 @@
 // The whole promise, as one theorem about the rules.
 
+#![tactic(auto)]
+
 ghost use Rattle.laws.specs.Whole.{Whole};
 
 // What is promised of whole runs holds of every accepted script.

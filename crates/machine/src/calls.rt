@@ -18,7 +18,7 @@ use work::{Work, line_at};
 
 // The record that a call on y makes the present one.
 fn called_record<S: Store>(store: &S, work: &Work, y: Place) -> Result<u16, Refusal>
-    ensures { result ≡ callee (state work.now (book store.now)) y }
+    ensures { result ≡ callee (state work.now (S.Store.book store.now)) y }
 {
     if let Place::None = y {
         return Ok(work.present);
@@ -60,7 +60,7 @@ pub(crate) fn enter<S: Store>(
     forward: bool,
     y: Place,
 ) -> Result<(), Refusal>
-    ensures { Made result work.old (book store.old) work.new (book store.new) (λ s. enters l s there forward y) }
+    ensures { Made result work.old (S.Store.book store.old) work.new (S.Store.book store.new) (λ s. enters l s there forward y) }
 {
     if !has_room(work) {
         return Err(Refusal::TooDeep);
@@ -96,7 +96,7 @@ fn caller_local(work: &Work) -> u16
 
 // y, if named, found with the caller's record and locals, holds the present record.
 fn holds<S: Store>(store: &S, work: &Work, former: u16, y: Place) -> Result<(), Refusal>
-    ensures { result ≡ holding (back_in former (under work.now) (state work.now (book store.now))) y work.now.present }
+    ensures { result ≡ holding (back_in former (under work.now) (state work.now (S.Store.book store.now))) y work.now.present }
 {
     if let Place::None = y {
         return Ok(());
@@ -110,7 +110,7 @@ fn holds<S: Store>(store: &S, work: &Work, former: u16, y: Place) -> Result<(), 
 
 // The same of y of the frame's line.
 fn still_holds<S: Store>(store: &S, work: &Work, program: &Program, f: Frame) -> Result<(), Refusal>
-    ensures { result ≡ holding (back_in f.former (under work.now) (state work.now (book store.now))) (line_at (script_of program.now).lines f.line).y work.now.present }
+    ensures { result ≡ holding (back_in f.former (under work.now) (state work.now (S.Store.book store.now))) (line_at (script_of program.now).lines f.line).y work.now.present }
 {
     let call = line_at(program, f.line as u32);
     holds(store, work, f.former, call.y)
@@ -140,7 +140,7 @@ pub(crate) fn come_back<S: Store>(
     work: &mut Work,
     program: &Program,
 ) -> Result<(), Refusal>
-    ensures { Made result work.old (book store.old) work.new (book store.new) (λ s. comes_back (script_of program.now) s) }
+    ensures { Made result work.old (S.Store.book store.old) work.new (S.Store.book store.new) (λ s. comes_back (script_of program.now) s) }
 {
     let Some(f) = top_frame(work) else {
         return Err(Refusal::Unpaired);

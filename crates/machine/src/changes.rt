@@ -24,7 +24,7 @@ pub(crate) fn pass(work: &mut Work, l: u16)
 
 // The step changes nothing but the position.
 pub(crate) fn go_past<S: Store>(store: &mut S, work: &mut Work, l: u16) -> Result<(), Refusal>
-    ensures { Made result work.old (book store.old) work.new (book store.new) (λ s. go l s) }
+    ensures { Made result work.old (S.Store.book store.old) work.new (S.Store.book store.new) (λ s. go l s) }
 {
     pass(work, l);
     Ok(())
@@ -32,7 +32,7 @@ pub(crate) fn go_past<S: Store>(store: &mut S, work: &mut Work, l: u16) -> Resul
 
 // The spot u takes the word v, and the position goes past line l.
 pub(crate) fn settle<S: Store>(store: &mut S, work: &mut Work, l: u16, u: Spot, v: i32)
-    ensures { state work.new (book store.new) ≡ go_to (past work.old.forward l) (write u v (state work.old (book store.old))) }
+    ensures { state work.new (S.Store.book store.new) ≡ go_to (past work.old.forward l) (write u v (state work.old (S.Store.book store.old))) }
 {
     write_at(store, work, u, v);
     pass(work, l);
@@ -46,7 +46,7 @@ pub(crate) fn raise<S: Store>(
     x: Place,
     e: i32,
 ) -> Result<(), Refusal>
-    ensures { Made result work.old (book store.old) work.new (book store.new) (λ s. raised l s x e) }
+    ensures { Made result work.old (S.Store.book store.old) work.new (S.Store.book store.new) (λ s. raised l s x e) }
 {
     let u = find(work, x)?;
     let v = read_at(store, work, u);
@@ -62,7 +62,7 @@ pub(crate) fn lower<S: Store>(
     x: Place,
     e: i32,
 ) -> Result<(), Refusal>
-    ensures { Made result work.old (book store.old) work.new (book store.new) (λ s. lowered l s x e) }
+    ensures { Made result work.old (S.Store.book store.old) work.new (S.Store.book store.new) (λ s. lowered l s x e) }
 {
     let u = find(work, x)?;
     let v = read_at(store, work, u);
@@ -78,7 +78,7 @@ pub(crate) fn mix<S: Store>(
     x: Place,
     e: i32,
 ) -> Result<(), Refusal>
-    ensures { Made result work.old (book store.old) work.new (book store.new) (λ s. mixed l s x e) }
+    ensures { Made result work.old (S.Store.book store.old) work.new (S.Store.book store.new) (λ s. mixed l s x e) }
 {
     let u = find(work, x)?;
     let v = read_at(store, work, u);
@@ -93,7 +93,7 @@ pub(crate) fn open_local<S: Store>(
     l: u16,
     e: i32,
 ) -> Result<(), Refusal>
-    ensures { Made result work.old (book store.old) work.new (book store.new) (λ s. opens l s e) }
+    ensures { Made result work.old (S.Store.book store.old) work.new (S.Store.book store.new) (λ s. opens l s e) }
 {
     if work.opened >= 256 {
         return Err(Refusal::TooDeep);
@@ -126,7 +126,7 @@ pub(crate) fn close_local<S: Store>(
     l: u16,
     e: i32,
 ) -> Result<(), Refusal>
-    ensures { Made result work.old (book store.old) work.new (book store.new) (λ s. closes l s e) }
+    ensures { Made result work.old (S.Store.book store.old) work.new (S.Store.book store.new) (λ s. closes l s e) }
 {
     if read_at(store, work, Spot::InLocals(work.opened.saturating_sub(1))) != e {
         return Err(Refusal::TestFailed);

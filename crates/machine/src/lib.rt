@@ -1,5 +1,7 @@
 // The machine of a checked program: one step, over any store.
 
+#![tactic(auto)]
+
 mod calls;
 mod changes;
 mod records;

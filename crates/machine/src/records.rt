@@ -11,7 +11,7 @@ use store::Store;
 
 // The record that a word names, 0 for none.
 pub(crate) fn record_named<S: Store>(store: &S, v: i32) -> u16
-    ensures name { result ≡ named (book store.now) v }
+    ensures name { result ≡ named (S.Store.book store.now) v }
     ensures low { result ≤ 1000 }
 {
     if v < 1 || v > 1000 {
@@ -22,7 +22,7 @@ pub(crate) fn record_named<S: Store>(store: &S, v: i32) -> u16
 }
 
 fn is_zero<S: Store>(store: &S, w: u32) -> bool
-    ensures { result ≡ eq_z (slice_index_or (book store.now) w (pos 0)) (pos 0) }
+    ensures { result ≡ eq_z (slice_index_or (S.Store.book store.now) w (pos 0)) (pos 0) }
 {
     word_at(store, w) == 0
 }
@@ -30,7 +30,7 @@ fn is_zero<S: Store>(store: &S, w: u32) -> bool
 // Whether the first n words of record k are 0.
 pub(crate) fn is_clear<S: Store>(store: &S, n: u32, k: u16) -> bool
     requires { n ≤ 8 }
-    ensures { result ≡ clear (book store.now) n k }
+    ensures { result ≡ clear (S.Store.book store.now) n k }
 {
     for i in 0..n {
         if !is_zero(store, 73 + 8 * k as u32 + i) {
@@ -52,7 +52,7 @@ pub(crate) fn lies_in(s: Spot, k: u16) -> bool
 
 // Takes record k, the first free one, off the free list: the head takes its f3, which becomes 0.
 pub(crate) fn unlink<S: Store>(store: &mut S, k: u16)
-    ensures { book store.new ≡ slice_set (slice_set (book store.old) 0 (slice_index_or (book store.old) (record_at k + 7) (pos 0))) (record_at k + 7) (pos 0) }
+    ensures { S.Store.book store.new ≡ slice_set (slice_set (S.Store.book store.old) 0 (slice_index_or (S.Store.book store.old) (record_at k + 7) (pos 0))) (record_at k + 7) (pos 0) }
 {
     let f3 = 73 + 8 * k as u32 + 7;
     let next = word_at(store, f3);
@@ -63,7 +63,7 @@ pub(crate) fn unlink<S: Store>(store: &mut S, k: u16)
 // Puts record k at the front of the free list: its f3 takes the head, and the head names it.
 pub(crate) fn link<S: Store>(store: &mut S, k: u16)
     requires { k ≤ 1000 }
-    ensures { book store.new ≡ slice_set (slice_set (book store.old) (record_at k + 7) (slice_index_or (book store.old) 0 (pos 0))) 0 (pos k) }
+    ensures { S.Store.book store.new ≡ slice_set (slice_set (S.Store.book store.old) (record_at k + 7) (slice_index_or (S.Store.book store.old) 0 (pos 0))) 0 (pos k) }
 {
     let head = word_at(store, 0);
     put_word(store, 73 + 8 * k as u32 + 7, head);

@@ -20,7 +20,7 @@ pub(crate) fn allocate<S: Store>(
     l: u16,
     x: Place,
 ) -> Result<(), Refusal>
-    ensures { Made result work.old (book store.old) work.new (book store.new) (λ s. allocates l s x) }
+    ensures { Made result work.old (S.Store.book store.old) work.new (S.Store.book store.new) (λ s. allocates l s x) }
 {
     let u = find(work, x)?;
     if read_at(store, work, u) != 0 {
@@ -46,7 +46,7 @@ pub(crate) fn release<S: Store>(
     l: u16,
     x: Place,
 ) -> Result<(), Refusal>
-    ensures { Made result work.old (book store.old) work.new (book store.new) (λ s. releases l s x) }
+    ensures { Made result work.old (S.Store.book store.old) work.new (S.Store.book store.new) (λ s. releases l s x) }
 {
     let u = find(work, x)?;
     let k = record_named(store, read_at(store, work, u));
@@ -69,7 +69,7 @@ pub(crate) fn duplicate<S: Store>(
     x: Place,
     y: Place,
 ) -> Result<(), Refusal>
-    ensures { Made result work.old (book store.old) work.new (book store.new) (λ s. duplicates l s x y) }
+    ensures { Made result work.old (S.Store.book store.old) work.new (S.Store.book store.new) (λ s. duplicates l s x y) }
 {
     let u = find(work, x)?;
     let w = find(work, y)?;
@@ -89,7 +89,7 @@ pub(crate) fn erase<S: Store>(
     x: Place,
     y: Place,
 ) -> Result<(), Refusal>
-    ensures { Made result work.old (book store.old) work.new (book store.new) (λ s. erases l s x y) }
+    ensures { Made result work.old (S.Store.book store.old) work.new (S.Store.book store.new) (λ s. erases l s x y) }
 {
     let u = find(work, x)?;
     let w = find(work, y)?;
@@ -102,7 +102,7 @@ pub(crate) fn erase<S: Store>(
 
 // Two spots take each other's words.
 fn swap_words<S: Store>(store: &mut S, work: &mut Work, u: Spot, w: Spot)
-    ensures { state work.new (book store.new) ≡ write w (read (state work.old (book store.old)) u) (write u (read (state work.old (book store.old)) w) (state work.old (book store.old))) }
+    ensures { state work.new (S.Store.book store.new) ≡ write w (read (state work.old (S.Store.book store.old)) u) (write u (read (state work.old (S.Store.book store.old)) w) (state work.old (S.Store.book store.old))) }
 {
     let a = read_at(store, work, u);
     let b = read_at(store, work, w);
@@ -118,7 +118,7 @@ pub(crate) fn exchange<S: Store>(
     x: Place,
     y: Place,
 ) -> Result<(), Refusal>
-    ensures { Made result work.old (book store.old) work.new (book store.new) (λ s. exchanges l s x y) }
+    ensures { Made result work.old (S.Store.book store.old) work.new (S.Store.book store.new) (λ s. exchanges l s x y) }
 {
     let u = find(work, x)?;
     let w = find(work, y)?;

@@ -46,7 +46,7 @@ fn own_value<S: Store>(
     l: u16,
     kind: Kind,
 ) -> Result<i32, Refusal>
-    ensures { result ≡ own_value (met work.now.forward (code kind)) (script_of program.now) l (state work.now (book store.now)) }
+    ensures { result ≡ own_value (met work.now.forward (code kind)) (script_of program.now) l (state work.now (S.Store.book store.now)) }
 {
     match (kind, work.forward) {
         (
@@ -76,7 +76,7 @@ fn far_value<S: Store>(
     own: i32,
 ) -> Result<i32, Refusal>
     requires { l < program.now.count }
-    ensures { result ≡ far_value (met work.now.forward (code kind)) (script_of program.now) l (state work.now (book store.now)) own }
+    ensures { result ≡ far_value (met work.now.forward (code kind)) (script_of program.now) l (state work.now (S.Store.book store.now)) own }
 {
     match (kind, work.forward) {
         (Kind::If | Kind::Until, true) | (Kind::Fi | Kind::From, false) if own == 0 => {
@@ -95,7 +95,7 @@ fn call<S: Store>(
     line: Line,
     forward: bool,
 ) -> Result<(), Refusal>
-    ensures { Made result work.old (book store.old) work.new (book store.new) (λ s. calling (script_of program.now) l line s forward) }
+    ensures { Made result work.old (S.Store.book store.old) work.new (S.Store.book store.new) (λ s. calling (script_of program.now) l line s forward) }
 {
     let there = entry(program, forward, line.q);
     enter(store, work, l, there, forward, line.y)
@@ -113,7 +113,7 @@ fn act<S: Store>(
     far: i32,
 ) -> Result<(), Refusal>
     requires { l < program.now.count }
-    ensures { Acted result work.old (book store.old) work.new (book store.new) kind program.now l line own far }
+    ensures { Acted result work.old (S.Store.book store.old) work.new (S.Store.book store.new) kind program.now l line own far }
 {
     match (kind, work.forward) {
         (Kind::Begin, true) | (Kind::End, false) => Err(Refusal::Unpaired),
@@ -146,7 +146,7 @@ fn act<S: Store>(
 
 // One step. A refused step alters nothing.
 pub fn step<S: Store>(store: &mut S, work: &mut Work, program: &Program) -> Result<(), Refusal>
-    ensures { Made result work.old (book store.old) work.new (book store.new) (λ s. step_of (script_of program.now) s) }
+    ensures { Made result work.old (S.Store.book store.old) work.new (S.Store.book store.new) (λ s. step_of (script_of program.now) s) }
 {
     let Some((l, line)) = line_due(work, program) else {
         return Err(Refusal::Unknown);

@@ -1,5 +1,7 @@
 // Plays sessions from standard input, or from the file that the one argument names, and prints one line an answer.
 
+#![tactic(auto)]
+
 mod commands;
 mod desk;
 mod playing;

@@ -1,5 +1,7 @@
 // Prices of instruments, in ticks, each kept in a number mark.
 
+#![tactic(auto)]
+
 ghost use Rattle.std.specs.Prelude.{◌≡◌, slice_set};
 ghost use Rattle.rules.specs.Book.{read_of, write_of};
 ghost use Rattle.store.specs.Layout.{moves_after};
@@ -31,15 +33,15 @@ impl Instrument {
 }
 
 pub fn price<S: Store>(store: &S, instrument: Instrument) -> Result<i32, Refusal>
-    ensures { result ≡ read_of (book store.now) (mark instrument) }
+    ensures { result ≡ read_of (S.Store.book store.now) (mark instrument) }
 {
     store.read(instrument.mark())
 }
 
 // Writes a price into a store, and alters nothing else.
 pub fn post<S: Store>(store: &mut S, instrument: Instrument, ticks: i32) -> Result<(), Refusal>
-    ensures answer { result ≡ write_of (book store.old) (mark instrument) }
-    ensures after { book store.new ≡ slice_set (book store.old) (mark instrument) ticks }
+    ensures answer { result ≡ write_of (S.Store.book store.old) (mark instrument) }
+    ensures after { S.Store.book store.new ≡ slice_set (S.Store.book store.old) (mark instrument) ticks }
 {
     store.write(instrument.mark(), ticks)
 }
@@ -50,8 +52,8 @@ pub fn move_to<S: Store>(
     instrument: Instrument,
     ticks: i32,
 ) -> Result<i32, Refusal>
-    ensures answer { result ≡ move_to (book layer.old.below) instrument ticks }
-    ensures moves { layer.new.moves ≡ moves_after layer.old.moves (book layer.old.below) (mark instrument) ticks }
+    ensures answer { result ≡ move_to (S.Store.book layer.old.below) instrument ticks }
+    ensures moves { layer.new.moves ≡ moves_after layer.old.moves (S.Store.book layer.old.below) (mark instrument) ticks }
     ensures kept { layer.new.below ≡ layer.old.below }
 {
     let w = instrument.mark();

@@ -1,5 +1,7 @@
 // The laws of any machine that steps and can be turned round. Each function's contract is a theorem; its body computes nothing.
 
+#![tactic(auto)]
+
 ghost use Rattle.reversible.specs.Laws.{LawfulRuns, MapsCarry};
 ghost use Rattle.reversible.specs.Ledger.{LedgerLaw};
 

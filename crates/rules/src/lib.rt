@@ -1,5 +1,7 @@
 // The data of a script, the refusals, and the worked figures as a theorem about the rules in specs/.
 
+#![tactic(auto)]
+
 ghost use Rattle.std.specs.Prelude.{◌≡◌, pos};
 ghost use Rattle.rules.specs.Answer.{number};
 ghost use Rattle.rules.specs.Figures.{Figures, Edges};

@@ -2,6 +2,8 @@
 // word of the book with what the table says. The table comes from standard input, a case a line:
 // `name | script | run | book before | answer | words that are changed after`.
 
+#![tactic(auto)]
+
 mod books;
 mod cases;
 mod scripts;

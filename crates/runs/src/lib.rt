@@ -1,5 +1,7 @@
 // Runs of a checked program over any store, forward and backward, with a budget. A refused run is rolled back.
 
+#![tactic(auto)]
+
 ghost use Rattle.std.specs.Prelude.{◌≡◌, true, [], nat_le};
 ghost use Rattle.reversible.specs.Machine.{walk as walk_of, run as run_of, run_from};
 ghost use Rattle.rules.specs.Book.{is_book};
@@ -41,7 +43,7 @@ fn walk<S: Store>(
     program: &Program,
     budget: u32,
 ) -> (Result<(), Refusal>, u32)
-    ensures { halt result.0 result.1 (state work.new (book store.new)) ≡ halted 0 (walk_of (machine (script_of program.now)) budget (state work.old (book store.old))) }
+    ensures { halt result.0 result.1 (state work.new (S.Store.book store.new)) ≡ halted 0 (walk_of (machine (script_of program.now)) budget (state work.old (S.Store.book store.old))) }
 {
     let mut steps: u32 = 0;
     loop {
@@ -60,7 +62,7 @@ fn walk<S: Store>(
 }
 
 fn make_steps<S: Store>(store: &mut S, work: &mut Work, program: &Program, n: u32)
-    ensures { state work.new (book store.new) ≡ stepped (script_of program.now) n (state work.old (book store.old)) }
+    ensures { state work.new (S.Store.book store.new) ≡ stepped (script_of program.now) n (state work.old (S.Store.book store.old)) }
 {
     for _ in 0..n {
         let _ = step(store, work, program);
@@ -69,14 +71,14 @@ fn make_steps<S: Store>(store: &mut S, work: &mut Work, program: &Program, n: u3
 
 // Back through the steps that were made.
 fn unwind<S: Store>(store: &mut S, work: &mut Work, program: &Program, steps: u32)
-    ensures { state work.new (book store.new) ≡ stepped (script_of program.now) steps (flipped (state work.old (book store.old))) }
+    ensures { state work.new (S.Store.book store.new) ≡ stepped (script_of program.now) steps (flipped (state work.old (S.Store.book store.old))) }
 {
     turn_round(work);
     make_steps(store, work, program, steps);
 }
 
 fn has_book<S: Store>(store: &S) -> bool
-    ensures { result ≡ is_book (book store.now) }
+    ensures { result ≡ is_book (S.Store.book store.now) }
 {
     store.size() != 0
 }
@@ -90,11 +92,11 @@ fn run_from<S: Store>(
     forward: bool,
     budget: u32,
 ) -> Ending
-    requires held { is_book (book store.old) ≡ true }
+    requires held { is_book (S.Store.book store.old) ≡ true }
     requires there { has_method (script_of program.now).lines q ≡ true }
     requires begun { state work.old [] ≡ start_of (script_of program.now) forward q [] }
-    ensures outcome { told result (book store.new) ≡ run_from (machine (script_of program.now)) budget ((machine (script_of program.now)).enter q (facing forward) (book store.old)) }
-    ensures restored { Restored result (book store.old) (book store.new) }
+    ensures outcome { told result (S.Store.book store.new) ≡ run_from (machine (script_of program.now)) budget ((machine (script_of program.now)).enter q (facing forward) (S.Store.book store.old)) }
+    ensures restored { Restored result (S.Store.book store.old) (S.Store.book store.new) }
 {
     let (answer, steps) = walk(store, work, program, budget);
     let Err(refusal) = answer else {
@@ -111,8 +113,8 @@ fn run_from<S: Store>(
 
 // Runs method q on the book of the store, in this direction, with this budget. A refused run leaves the book as it was.
 pub fn run<S: Store>(store: &mut S, program: &Program, q: u32, forward: bool, budget: u32) -> Ending
-    ensures outcome { told result (book store.new) ≡ run_of (machine (script_of program.now)) q (facing forward) (book store.old) budget }
-    ensures restored { Restored result (book store.old) (book store.new) }
+    ensures outcome { told result (S.Store.book store.new) ≡ run_of (machine (script_of program.now)) q (facing forward) (S.Store.book store.old) budget }
+    ensures restored { Restored result (S.Store.book store.old) (S.Store.book store.new) }
 {
     if !has_book(store) {
         return Ending::Refused {

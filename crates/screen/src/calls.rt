@@ -21,7 +21,7 @@ const NOTHING: Standing = Standing {
 impl<S: Store> Screen<S> {
     // Takes a store: no lines, and nothing standing.
     pub fn open(store: S) -> Screen<S>
-        ensures screen { model book result ≡ open_screen screen_rules (book store) }
+        ensures screen { model S.Store.book result ≡ open_screen screen_rules (S.Store.book store) }
         ensures store { result.store ≡ store }
     {
         Screen {
@@ -34,8 +34,8 @@ impl<S: Store> Screen<S> {
 
     // Replaces the script, unless something stands or the check refuses it.
     pub fn load(&mut self, lines: &[Line], terms: &[Term]) -> (u32, u32, u32)
-        ensures answer { result ≡ three (screen_call screen_rules (model book self.old) (loading (script_from lines.now terms.now))).0 }
-        ensures screen { model book self.new ≡ (screen_call screen_rules (model book self.old) (loading (script_from lines.now terms.now))).1 }
+        ensures answer { result ≡ three (screen_call screen_rules (model S.Store.book self.old) (loading (script_from lines.now terms.now))).0 }
+        ensures screen { model S.Store.book self.new ≡ (screen_call screen_rules (model S.Store.book self.old) (loading (script_from lines.now terms.now))).1 }
     {
         if self.count > 0 {
             return (Refusal::SomethingStands.code(), 0, 0);
@@ -51,7 +51,7 @@ impl<S: Store> Screen<S> {
 
     // Why a full screen refuses method q: there is no book, no such method, or no room.
     fn why_full(&self, q: u32) -> Refusal
-        ensures { Full result (model book self.now) q }
+        ensures { Full result (model S.Store.book self.now) q }
     {
         if self.store.size() == 0 {
             return Refusal::NoBook;
@@ -75,8 +75,8 @@ impl<S: Store> Screen<S> {
 
     // Runs method q forward; a finished one joins the standing list.
     pub fn apply(&mut self, q: u32, budget: u32) -> (u32, u32, u32)
-        ensures answer { result ≡ three (screen_call screen_rules (model book self.old) (applying q budget)).0 }
-        ensures screen { model book self.new ≡ (screen_call screen_rules (model book self.old) (applying q budget)).1 }
+        ensures answer { result ≡ three (screen_call screen_rules (model S.Store.book self.old) (applying q budget)).0 }
+        ensures screen { model S.Store.book self.new ≡ (screen_call screen_rules (model S.Store.book self.old) (applying q budget)).1 }
     {
         if self.count >= CAPACITY {
             return (self.why_full(q).code(), 0, 0);
@@ -96,8 +96,8 @@ impl<S: Store> Screen<S> {
 
     // Runs the last standing method backward and strikes it from the list.
     pub fn back(&mut self) -> (u32, u32, u32)
-        ensures answer { result ≡ three (screen_call screen_rules (model book self.old) going_back).0 }
-        ensures screen { model book self.new ≡ (screen_call screen_rules (model book self.old) going_back).1 }
+        ensures answer { result ≡ three (screen_call screen_rules (model S.Store.book self.old) going_back).0 }
+        ensures screen { model S.Store.book self.new ≡ (screen_call screen_rules (model S.Store.book self.old) going_back).1 }
     {
         if self.count == 0 {
             return (Refusal::NothingStands.code(), 0, 0);
@@ -124,7 +124,7 @@ impl<S: Store> Screen<S> {
 
     // Word w of the book as it stands.
     pub fn look(&self, w: u32) -> (u32, i32)
-        ensures { result ≡ two (screen_call screen_rules (model book self.now) (looking w)).0 }
+        ensures { result ≡ two (screen_call screen_rules (model S.Store.book self.now) (looking w)).0 }
     {
         match self.store.read(w) {
             Ok(word) => (0, word),

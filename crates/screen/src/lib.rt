@@ -1,5 +1,7 @@
 // The screen: a store with a script on it, and the list of what was put on and can be taken off again.
 
+#![tactic(auto)]
+
 mod calls;
 mod parts;
 mod sessions;

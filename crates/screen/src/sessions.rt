@@ -12,8 +12,8 @@ use store::Store;
 
 // Makes one call on a screen.
 pub fn make_call<S: Store>(screen: &mut Screen<S>, call: Call) -> Reply
-    ensures answer { result ≡ reply_of (screen_call screen_rules (model book screen.old) (call_of call.entry)).0 }
-    ensures screen { model book screen.new ≡ (screen_call screen_rules (model book screen.old) (call_of call.entry)).1 }
+    ensures answer { result ≡ reply_of (screen_call screen_rules (model S.Store.book screen.old) (call_of call.entry)).0 }
+    ensures screen { model S.Store.book screen.new ≡ (screen_call screen_rules (model S.Store.book screen.old) (call_of call.entry)).1 }
 {
     match call {
         Call::Load(lines, terms) => {
@@ -46,7 +46,7 @@ fn keep(replies: &mut [Reply], at: usize, reply: Reply)
 
 // Opens a screen on the store and makes these calls. The replies go to the front of the slice, as many as it holds.
 pub fn play<S: Store>(store: S, calls: &[Call], replies: &mut [Reply]) -> Screen<S>
-    ensures { Played (book store) (map call_of calls.now) replies.old replies.new (model book result) }
+    ensures { Played (S.Store.book store) (map call_of calls.now) replies.old replies.new (model S.Store.book result) }
 {
     let mut screen = Screen::open(store);
     for (k, call) in calls.iter().enumerate() {

@@ -1,5 +1,7 @@
 // Scripts: the check, turning, and the checked program that the machine runs.
 
+#![tactic(auto)]
+
 pub mod building;
 pub mod checking;
 mod judging;

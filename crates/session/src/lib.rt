@@ -1,6 +1,8 @@
 // What the text of a session needs besides the engine: digests, and places by their letters.
 // A digest is FNV-1a with 64 bits, over numbers as four bytes each, the highest first.
 
+#![tactic(auto)]
+
 ghost use Rattle.std.specs.Prelude.{◌≡◌};
 ghost use Rattle.std.specs.Int.{w32};
 ghost use Rattle.std.proofs.Common.{of_z};

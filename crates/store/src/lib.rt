@@ -1,6 +1,8 @@
 // Stores. A store holds one book, which is its meaning, and offers three calls on the words of that book.
 // Words and bytes lie in the caller's slice; moves lie over any other store.
 
+#![tactic(auto)]
+
 ghost use Rattle.std.specs.Prelude.{◌≡◌, ◌≤◌, List, length, ℤ, slice_set};
 ghost use Rattle.rules.specs.Book.{Held, read_of, write_of};
 

@@ -23,7 +23,7 @@ impl<S: Store> Moves<S> {
     pub fn over(below: S) -> Moves<S>
         ensures below { result.below ≡ below }
         ensures moves { result.moves ≡ replicate 64 (pos 0) }
-        ensures same { moved result.moves (book result.below) ≡ book below }
+        ensures same { moved result.moves (S.Store.book result.below) ≡ S.Store.book below }
     {
         Moves {
             below,
@@ -55,7 +55,7 @@ impl<S: Store> Moves<S> {
 
     // How many words the book below has.
     fn count(&self) -> u32
-        ensures { result ≡ length (book self.now.below) }
+        ensures { result ≡ length (S.Store.book self.now.below) }
     {
         self.below.size()
     }
@@ -63,8 +63,8 @@ impl<S: Store> Moves<S> {
     // Moves mark w such that v is shown, and leaves the store below alone.
     fn write_mark(&mut self, w: u32, v: i32) -> Result<(), Refusal>
         requires { is_mark w ≡ true }
-        ensures answer { result ≡ write_of (book self.old.below) w }
-        ensures moves { self.new.moves ≡ mark_moved self.old.moves (book self.old.below) w v }
+        ensures answer { result ≡ write_of (S.Store.book self.old.below) w }
+        ensures moves { self.new.moves ≡ mark_moved self.old.moves (S.Store.book self.old.below) w v }
         ensures kept { self.new.below ≡ self.old.below }
     {
         let x = self.below.read(w)?;

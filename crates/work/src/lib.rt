@@ -1,5 +1,7 @@
 // The work state of a run: where a run starts, whose turn it is, whether it is finished, and how it is turned round.
 
+#![tactic(auto)]
+
 mod parts;
 mod starts;
 mod table;

@@ -7,12 +7,12 @@ use Rattle.rules.specs.Word.{word}
 use Rattle.prices.proofs.Marked.{at_mark, marked_refused, marked_inside, marked_moved}
 use Rattle.prices.proofs.move_to.Goals as goal
 
-pub returns-in-err-write : goal.returns-in-err-write
-returns-in-err-write g c =
+pub returns-in_err-write : goal.returns-in_err-write
+returns-in_err-write g c =
     let b = g.S.Store.book c.args.layer.now.below in
-    let p = err_from_is_err_and c.from-residual.result c.from-residual.ensures.1 in
+    let p = err_from_is_err_and c.from_residual.result c.from_residual.ensures.1 in
     record {
-      answer = p.1 ∙ ap Err p.2 ∙ marked_refused c.args.layer.now.moves b c.mark-w.result c.args.instrument c.args.ticks _ c.mark-w.ensures c.in-err-write.ensures.answer;
+      answer = p.1 ∙ ap Err p.2 ∙ marked_refused c.args.layer.now.moves b c.mark-w.result c.args.instrument c.args.ticks _ c.mark-w.ensures c.in_err-write.ensures.answer;
       moves = c.write.ensures.moves ∙ ap₂ (moves_after c.args.layer.now.moves b) c.mark-w.ensures (to_z-of_z w32 _ c.ranges.ticks);
       kept = c.write.ensures.kept (at_mark _ _ c.mark-w.ensures);
     }
@@ -21,12 +21,12 @@ pub returns : goal.returns
 returns g c =
     let b = g.S.Store.book c.args.layer.now.below in
     let w = c.mark-w.result in
-    let m : Word c.move-of.result = search rules in
+    let m : Word c.move_of.result = search rules in
     let mark = at_mark w c.args.instrument c.mark-w.ensures in
-    let h = marked_inside c.args.layer.now.moves b w c.in-ok-write.ensures.answer in
+    let h = marked_inside c.args.layer.now.moves b w c.in_ok-write.ensures.answer in
     let by = c.write.ensures.by mark h ∙ ap (λ t. word (t -ℤ get_or b w (pos 0))) (to_z-of_z w32 _ c.ranges.ticks) in
     record {
-      answer = ap Ok (to_z-of_z w32 _ m ∙ c.move-of.ensures ∙ by) ∙ marked_moved b w c.args.instrument c.args.ticks c.mark-w.ensures h;
+      answer = ap Ok (to_z-of_z w32 _ m ∙ c.move_of.ensures ∙ by) ∙ marked_moved b w c.args.instrument c.args.ticks c.mark-w.ensures h;
       moves = c.write.ensures.moves ∙ ap₂ (moves_after c.args.layer.now.moves b) c.mark-w.ensures (to_z-of_z w32 _ c.ranges.ticks);
       kept = c.write.ensures.kept mark;
     }

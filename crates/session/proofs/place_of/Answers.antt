@@ -17,5 +17,5 @@ returns-in-114 c = search (rules, inverse)
 pub returns-in-118 : goal.returns-in-118
 returns-in-118 c = search (rules, inverse)
 
-pub returns-in-default : goal.returns-in-default
-returns-in-default c = search (rules, inverse)
+pub returns-in_default : goal.returns-in_default
+returns-in_default c = search (rules, inverse)

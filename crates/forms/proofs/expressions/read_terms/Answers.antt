@@ -9,8 +9,8 @@ use Rattle.forms.proofs.expressions.read_terms.Goals as goal
 pub loop-t-init : goal.loop-t-init
 loop-t-init c = read_all c.args.x c.args.depth c.args.terms.now
 
-pub returns-in-default : goal.returns-in-default
-returns-in-default c = read_stops c.args.x c.args.depth c.loop-t.waiting c.loop-t.named c.args.terms.now c.loop-t.t-index _ c.loop-t.invariant _ c.loop-t-test.true c.in-default.ensures
+pub returns-in_default : goal.returns-in_default
+returns-in_default c = read_stops c.args.x c.args.depth c.loop-t.waiting c.loop-t.named c.args.terms.now c.loop-t.t-index _ c.loop-t.invariant _ c.loop-t-test.true c.in_default.ensures
 
 pub loop-t-preserved : goal.loop-t-preserved
 loop-t-preserved c =

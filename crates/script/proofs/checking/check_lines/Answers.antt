@@ -23,7 +23,7 @@ pub loop-k-init : goal.loop-k-init
 loop-k-init c =
     let sc = script_from c.args.lines.now c.args.terms.now in
     let f : List Line → _ = λ os. walked sc 0 os sc.lines in
-    (ap f c.nothing-open-openers.ensures.stack, omega (arith, c.nothing-open-openers.ensures.count), refl, λ q. none_yet 256 q _)
+    (ap f c.nothing_open-openers.ensures.stack, omega (arith, c.nothing_open-openers.ensures.count), refl, λ q. none_yet 256 q _)
 
 pub returns-in-Err : goal.returns-in-Err
 returns-in-Err c =
@@ -41,7 +41,7 @@ loop-k-preserved c =
     let os = openers_of c.loop-k.openers in
     let l = get_or sc.lines k blank in
     let here : line_at sc.lines k ≡ l = get_or_default sc.lines k no_line blank c.loop-k-test.true in
-    let passed : judged sc k os l ≡ Ok tt = sym (judged_here sc k c.loop-k-test.true l here c.loop-k.begun c.loop-k.invariant.3 os) ∙ sym c.in-default.ensures in
+    let passed : judged sc k os l ≡ Ok tt = sym (judged_here sc k c.loop-k-test.true l here c.loop-k.begun c.loop-k.invariant.3 os) ∙ sym c.in_default.ensures in
     let f : List Line → _ = λ os. walked sc (k + 1) os (drop (k + 1) sc.lines) in
     let g : List _ → Type 0 = λ b. Begun b sc.lines (k + 1) in (
       ap f c.pass.ensures.stack ∙ goes_on sc k os _ c.loop-k.invariant.0 blank c.loop-k-test.true passed,

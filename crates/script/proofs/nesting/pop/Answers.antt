@@ -16,18 +16,18 @@ split ls n m d some h e =
     let s = count_is ls (n - 1) (omega arith) in
     (e ∙ f, omega arith)
 
-pub overflow-sub-openers-then-openers-gt0-2 : goal.overflow-sub-openers-then-openers-gt0-2
-overflow-sub-openers-then-openers-gt0-2 c =
+pub overflow_sub-openers-then-openers-gt0-2 : goal.overflow_sub-openers-then-openers-gt0-2
+overflow_sub-openers-then-openers-gt0-2 c =
     let o = c.args.openers.now in
     let s = split o.lines o.count o.locals blank (omega arith) (omega arith) o.deep in
-    let w = c.local-count-locals.ensures in
+    let w = c.local_count-locals.ensures in
     omega (arith, s.0)
 
-pub invariant-of-openers : goal.invariant-of-openers
-invariant-of-openers c =
+pub invariant_of-openers : goal.invariant_of-openers
+invariant_of-openers c =
     let o = c.args.openers.now in
     let s = split o.lines o.count o.locals blank (omega arith) (omega arith) o.deep in
-    let w = c.local-count-locals.ensures in
+    let w = c.local_count-locals.ensures in
     (o.wide, (omega arith, (omega (arith, s.0, s.1), (omega (arith, s.0), tt))))
 
 pub returns-then-openers-gt0 : goal.returns-then-openers-gt0

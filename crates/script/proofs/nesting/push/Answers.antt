@@ -4,10 +4,10 @@ use Rattle.laws.proofs.Fronts.{on_push}
 use Rattle.script.proofs.Stacks.{depth_cons, one_local}
 use Rattle.script.proofs.nesting.push.Goals as goal
 
-pub invariant-of-openers : goal.invariant-of-openers
-invariant-of-openers c =
+pub invariant_of-openers : goal.invariant_of-openers
+invariant_of-openers c =
     let o = c.args.openers.now in
-    let w = c.local-count-locals.ensures in
+    let w = c.local_count-locals.ensures in
     let one = one_local c.args.line in
     let h : o.count < length o.lines = omega arith in
     let p = on_push o.lines o.count c.args.line h in

@@ -10,7 +10,7 @@ returns-then-closes-deep c =
     let g : ℕ → Bool = λ k. closes k && eqb c.loop-j.deep 0 in
     record {
       value = up_found c.args.lines.now c.args.k c.loop-j.j c.loop-j.deep (omega arith) (omega arith) (omega arith) c.loop-j.invariant.1
-          (ap g (sym c.turned-kind-kind.ensures) ∙ ap f (sym c.closes.ensures) ∙ c.if-closes-deep.true);
+          (ap g (sym c.turned_kind-kind.ensures) ∙ ap f (sym c.closes.ensures) ∙ c.if-closes-deep.true);
       low = omega arith;
     }
 
@@ -24,8 +24,8 @@ loop-j-preserved c =
     let g : ℕ → Bool = λ k. closes k && eqb d 0 in
     let t : ℕ → ℕ = λ k. deeper k d in
     let P : ℕ → Type 0 = λ d. (k - (j - 1)) + to_closer (turned (take (j - 1) ls)) d ≡ to_closer (turned (take k ls)) 0 in
-    let e = c.deeper-deep.ensures ∙ ap t c.turned-kind-kind.ensures in (
+    let e = c.deeper-deep.ensures ∙ ap t c.turned_kind-kind.ensures in (
       omega (arith, e, deeper_low (turned_kind (get_or ls (j - 1) blank).kind) d, c.loop-j.invariant.0),
       subst P (sym e)
-          (up_goes ls k j d (omega arith) (omega arith) (omega arith) c.loop-j.invariant.1 (ap g (sym c.turned-kind-kind.ensures) ∙ ap f (sym c.closes.ensures) ∙ c.if-closes-deep.false)),
+          (up_goes ls k j d (omega arith) (omega arith) (omega arith) c.loop-j.invariant.1 (ap g (sym c.turned_kind-kind.ensures) ∙ ap f (sym c.closes.ensures) ∙ c.if-closes-deep.false)),
     )

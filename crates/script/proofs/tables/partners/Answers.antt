@@ -9,5 +9,5 @@ loop-k-preserved c =
       length-set t k _ ∙ c.loop-k.invariant.0,
       below_more _ k
           (λ i h. get_or-set_other t k i _ 0 (omega arith) ∙ c.loop-k.invariant.1 i h)
-          (get_or-set_same t k _ 0 (omega (arith, c.loop-k.invariant.0)) ∙ c.partner-entry.ensures),
+          (get_or-set_same t k _ 0 (omega (arith, c.loop-k.invariant.0)) ∙ c.partner_entry.ensures),
     )

@@ -3,8 +3,8 @@ use lib.ListN.{get_or-replicate}
 use Rattle.laws.proofs.Methods.{where_none}
 use Rattle.script.proofs.program.Program.empty.Goals as goal
 
-pub invariant-of-result : goal.invariant-of-result
-invariant-of-result c = (
+pub invariant_of-result : goal.invariant_of-result
+invariant_of-result c = (
   refl,
   (
     omega arith,

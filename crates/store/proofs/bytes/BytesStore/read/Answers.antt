@@ -6,14 +6,14 @@ use Rattle.store.specs.Held.{Word}
 use Rattle.store.proofs.Tabs.{refused_tab, given_in, read_tab}
 use Rattle.store.proofs.bytes.BytesStore.read.Goals as goal
 
-pub returns-in-err-at : goal.returns-in-err-at
-returns-in-err-at c =
-    let p = err_from_is_err_and c.from-residual.result c.from-residual.ensures.1 in
-    refused_tab _ _ _ _ _ _ _ _ c.in-err-at.ensures p.1 p.2
+pub returns-in_err-at : goal.returns-in_err-at
+returns-in_err-at c =
+    let p = err_from_is_err_and c.from_residual.result c.from_residual.ensures.1 in
+    refused_tab _ _ _ _ _ _ _ _ c.in_err-at.ensures p.1 p.2
 
 pub returns : goal.returns
 returns c =
     let bs = c.args.self.now.bytes.now in
-    let i = given_in (held_in_bytes (length bs)) c.args.w c.args.w _ c.in-ok-at.ensures in
-    let f : Word c.word-at.result = search rules in
-    ap Ok (to_z-of_z w32 _ f ∙ c.word-at.ensures ∙ ap (byte_word bs) i.1) ∙ sym (read_tab _ _ _ i.0)
+    let i = given_in (held_in_bytes (length bs)) c.args.w c.args.w _ c.in_ok-at.ensures in
+    let f : Word c.word_at.result = search rules in
+    ap Ok (to_z-of_z w32 _ f ∙ c.word_at.ensures ∙ ap (byte_word bs) i.1) ∙ sym (read_tab _ _ _ i.0)

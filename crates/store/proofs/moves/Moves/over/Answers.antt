@@ -6,5 +6,5 @@ use Rattle.store.proofs.moves.Moves.over.Goals as goal
 pub returns : goal.returns
 returns g c =
     let b = g.S.Store.book c.args.below in
-    let none = c.no-moves.ensures in
+    let none = c.no_moves.ensures in
     record { below = refl; moves = none; same = ap (λ ms. moved ms b) none ∙ moved_none b (g.S.Store.meant c.args.below) }

@@ -8,19 +8,19 @@ use Rattle.store.proofs.Tabs.{refused_tab, given_in, read_tab}
 use Rattle.store.proofs.Layers.{seen_sum}
 use Rattle.store.proofs.moves.MovesStore.read.Goals as goal
 
-pub returns-in-err-x : goal.returns-in-err-x
-returns-in-err-x g c =
-    let p = err_from_is_err_and c.from-residual.result c.from-residual.ensures.1 in
-    refused_tab _ _ _ _ _ _ _ _ c.in-err-x.ensures p.1 p.2
+pub returns-in_err-x : goal.returns-in_err-x
+returns-in_err-x g c =
+    let p = err_from_is_err_and c.from_residual.result c.from_residual.ensures.1 in
+    refused_tab _ _ _ _ _ _ _ _ c.in_err-x.ensures p.1 p.2
 
 pub returns : goal.returns
 returns g c =
     let b = g.S.Store.book c.args.self.now.below in
-    let i = given_in (length b) c.args.w (get_or b c.args.w (pos 0)) c.in-ok-x.x c.in-ok-x.ensures in
+    let i = given_in (length b) c.args.w (get_or b c.args.w (pos 0)) c.in_ok-x.x c.in_ok-x.ensures in
     let ms = c.args.self.now.moves in
-    let f : Word c.in-ok-x.x = search rules in
-    let m : Word c.move-of.result = search rules in
+    let f : Word c.in_ok-x.x = search rules in
+    let m : Word c.move_of.result = search rules in
     let r : Word c.sum.result = search rules in
-    let e : c.sum.result ≡ word (c.in-ok-x.x +ℤ move_of ms c.args.w) = cc (c.sum.ensures, to_z-of_z w32 _ f, to_z-of_z w32 _ m, c.move-of.ensures) in
+    let e : c.sum.result ≡ word (c.in_ok-x.x +ℤ move_of ms c.args.w) = cc (c.sum.ensures, to_z-of_z w32 _ f, to_z-of_z w32 _ m, c.move_of.ensures) in
     ap Ok (to_z-of_z w32 _ r ∙ e ∙ seen_sum ms c.args.w _ f ∙ ap (seen ms c.args.w) i.1)
     ∙ sym (read_tab _ _ _ i.0)
