@@ -28,7 +28,12 @@ invariant_of-openers c =
     let o = c.args.openers.now in
     let s = split o.lines o.count o.locals blank (omega arith) (omega arith) o.deep in
     let w = c.local_count-locals.ensures in
-    (o.wide, (omega arith, (omega (arith, s.0, s.1), (omega (arith, s.0), tt))))
+    record {
+      wide = o.wide;
+      few = omega arith;
+      shallow = omega (arith, s.0, s.1);
+      deep = omega (arith, s.0);
+    }
 
 pub returns-then-openers-gt0 : goal.returns-then-openers-gt0
 returns-then-openers-gt0 c =

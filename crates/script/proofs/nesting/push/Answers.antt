@@ -12,16 +12,14 @@ invariant_of-openers c =
     let h : o.count < length o.lines = omega arith in
     let p = on_push o.lines o.count c.args.line h in
     let s = o.deep in
-    let l = o.shallow in (
-      length-set o.lines o.count c.args.line ∙ o.wide,
-      (
-        omega arith,
-        (
-          omega arith,
-          ((let e : depth (reverse (take (o.count + 1) (set o.lines o.count c.args.line))) ≡ depth (reverse (take o.count o.lines)) + _ = ap depth p ∙ depth_cons c.args.line (reverse (take o.count o.lines)) in omega arith), tt),
-        ),
-      ),
-    )
+    let l = o.shallow in
+    let e : depth (reverse (take (o.count + 1) (set o.lines o.count c.args.line))) ≡ depth (reverse (take o.count o.lines)) + _ = ap depth p ∙ depth_cons c.args.line (reverse (take o.count o.lines)) in
+    record {
+      wide = length-set o.lines o.count c.args.line ∙ o.wide;
+      few = omega arith;
+      shallow = omega arith;
+      deep = omega arith;
+    }
 
 pub returns : goal.returns
 returns c =
