@@ -7,14 +7,14 @@ pub returns : goal.returns
 unfolding operated ◌>>=◌
 returns c = search rules
 
-pub returns-in-err-b : goal.returns-in-err-b
+pub returns-in_err-b : goal.returns-in_err-b
 unfolding operated ◌>>=◌
-returns-in-err-b c = search rules
+returns-in_err-b c = search rules
 
-pub returns-in-err-a : goal.returns-in-err-a
+pub returns-in_err-a : goal.returns-in_err-a
 unfolding operated ◌>>=◌
-returns-in-err-a c = search rules
+returns-in_err-a c = search rules
 
-pub returns-in-err-v : goal.returns-in-err-v
+pub returns-in_err-v : goal.returns-in_err-v
 unfolding operated ◌>>=◌
-returns-in-err-v c = search rules
+returns-in_err-v c = search rules

@@ -12,15 +12,15 @@ returns-in-8 c = search rules
 
 pub returns-in-8-2 : goal.returns-in-8-2
 unfolding operate
-returns-in-8-2 c = let n = not_zero c.args.b c.if-b-eq0.false in let e = quot_wraps c.args.a c.args.b c.ranges.a in let d = c.wrapping-div.ensures in rw (c.in-8.is, n) (search (rules, e))
+returns-in-8-2 c = let n = not_zero c.args.b c.if-b-eq0.false in let e = quot_wraps c.args.a c.args.b c.ranges.a in let d = c.wrapping_div.ensures in rw (c.in-8.is, n) (search (rules, e))
 
 pub returns-in-9-2 : goal.returns-in-9-2
 unfolding operate
 returns-in-9-2 c = let n = not_zero c.args.b c.if-b-eq0-2.false in rw (c.in-9.is, n) (search (rules, wraps))
 
-pub returns-in-default : goal.returns-in-default
+pub returns-in_default : goal.returns-in_default
 unfolding operate
-returns-in-default c =
+returns-in_default c =
     let k = c.args.kind in
     ⊎_elim (λ h. too_low k c.args.a c.args.b h) (λ h. too_high k c.args.a c.args.b (omega arith)) (cases_lt k 4)
 

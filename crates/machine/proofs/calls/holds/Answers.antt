@@ -1,15 +1,15 @@
 use Rattle.std.proofs.Common.{rules}
-use Rattle.rules.specs.Answer.{◌>>=◌, goal as need-that}
+use Rattle.rules.specs.Answer.{◌>>=◌, need}
 use Rattle.machine.proofs.calls.holds.Goals as goal
 
-pub returns-in-err-u : goal.returns-in-err-u
-unfolding ◌>>=◌ need-that
-returns-in-err-u g c = search rules
+pub returns-in_err-u : goal.returns-in_err-u
+unfolding ◌>>=◌ need
+returns-in_err-u g c = search rules
 
-pub returns-then-read-at-work : goal.returns-then-read-at-work
-unfolding ◌>>=◌ need-that
-returns-then-read-at-work g c = search rules
+pub returns-then-read_at-work : goal.returns-then-read_at-work
+unfolding ◌>>=◌ need
+returns-then-read_at-work g c = search rules
 
 pub returns : goal.returns
-unfolding ◌>>=◌ need-that
+unfolding ◌>>=◌ need
 returns g c = search rules

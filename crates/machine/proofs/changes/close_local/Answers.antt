@@ -1,15 +1,15 @@
 use Rattle.std.proofs.Common.{rules}
 use Rattle.std.proofs.lemmas.List.{length-take-le}
-use Rattle.rules.specs.Answer.{◌>>=◌, goal as need-that}
+use Rattle.rules.specs.Answer.{◌>>=◌, need}
 use Rattle.machine.specs.Acting.{closes}
 use Rattle.machine.proofs.changes.close_local.Goals as goal
 
-pub returns-then-read-at-e : goal.returns-then-read-at-e
-unfolding closes ◌>>=◌ need-that
-returns-then-read-at-e g c = search rules
+pub returns-then-read_at-e : goal.returns-then-read_at-e
+unfolding closes ◌>>=◌ need
+returns-then-read_at-e g c = search rules
 
 pub returns : goal.returns
-unfolding closes ◌>>=◌ need-that
+unfolding closes ◌>>=◌ need
 returns g c =
     let w = c.args.work.now in
     let n = length-take-le w.opened w.locals (search rules) in

@@ -1,13 +1,13 @@
 use Rattle.std.proofs.Common.{rules}
 use Rattle.std.proofs.lemmas.Int.{wraps}
-use Rattle.rules.specs.Answer.{◌>>=◌, goal as need-that}
+use Rattle.rules.specs.Answer.{◌>>=◌, need}
 use Rattle.machine.specs.Acting.{mixed}
 use Rattle.machine.proofs.changes.mix.Goals as goal
 
-pub returns-in-err-u : goal.returns-in-err-u
-unfolding mixed ◌>>=◌ need-that
-returns-in-err-u g c = search rules
+pub returns-in_err-u : goal.returns-in_err-u
+unfolding mixed ◌>>=◌ need
+returns-in_err-u g c = search rules
 
 pub returns : goal.returns
-unfolding mixed ◌>>=◌ need-that
+unfolding mixed ◌>>=◌ need
 returns g c = search (rules, wraps)

@@ -2,16 +2,16 @@ use Rattle.std.proofs.Common.{◌≡◌, ◌+◌, ◌<◌, true, ltb, length, ta
 use Rattle.std.proofs.lemmas.List.{take_more_set, length-take-le}
 use Rattle.std.proofs.lemmas.Int.{to_z-of_z}
 use Rattle.std.proofs.lemmas.Bool.Decides.{nat_tests}
-use Rattle.rules.specs.Answer.{◌>>=◌, goal as need-that}
+use Rattle.rules.specs.Answer.{◌>>=◌, need}
 use Rattle.machine.specs.Acting.{opens}
 use Rattle.machine.proofs.changes.open_local.Goals as goal
 
 pub returns-then-work-ge256 : goal.returns-then-work-ge256
-unfolding opens ◌>>=◌ need-that
+unfolding opens ◌>>=◌ need
 returns-then-work-ge256 g c = search rules
 
 pub returns : goal.returns
-unfolding opens ◌>>=◌ need-that
+unfolding opens ◌>>=◌ need
 returns g c =
     let w = c.args.work.now in
     let n = length-take-le w.opened w.locals (search rules) in

@@ -1,20 +1,20 @@
 use Rattle.std.proofs.Common.{rules}
-use Rattle.rules.specs.Answer.{◌>>=◌, goal as need-that}
+use Rattle.rules.specs.Answer.{◌>>=◌, need}
 use Rattle.machine.specs.Acting.{releases}
 use Rattle.machine.proofs.references.release.Goals as goal
 
-pub returns-in-err-u : goal.returns-in-err-u
-unfolding releases ◌>>=◌ need-that
-returns-in-err-u g c = search rules
+pub returns-in_err-u : goal.returns-in_err-u
+unfolding releases ◌>>=◌ need
+returns-in_err-u g c = search rules
 
 pub returns-then-k-eq0 : goal.returns-then-k-eq0
-unfolding releases ◌>>=◌ need-that
+unfolding releases ◌>>=◌ need
 returns-then-k-eq0 g c = search rules
 
-pub returns-then-not-is-clear : goal.returns-then-not-is-clear
-unfolding releases ◌>>=◌ need-that
-returns-then-not-is-clear g c = search rules
+pub returns-then-not-is_clear : goal.returns-then-not-is_clear
+unfolding releases ◌>>=◌ need
+returns-then-not-is_clear g c = search rules
 
 pub returns : goal.returns
-unfolding releases ◌>>=◌ need-that
+unfolding releases ◌>>=◌ need
 returns g c = search rules
