@@ -23,10 +23,10 @@ stay_apart sc ok q d x y (Refused r l n) (Refused s k m) a b a' b' e f = tt
 pub returns : goal.returns
 returns g c =
     let p = c.args.program.now in
-    let first = c.run-each.ensures.first in
-    let second = c.run-each.ensures.second in
+    let first = c.run_each.ensures.first in
+    let second = c.run_each.ensures.second in
     record {
       first = first;
       second = second;
-      apart = stay_apart (script_of p) (accepted_from (script_of p) p.right) c.args.q (facing c.args.forward) c.args.x c.args.y c.run-each.result.0 c.run-each.result.1 _ _ _ _ first second;
+      apart = stay_apart (script_of p) (accepted_from (script_of p) p.right) c.args.q (facing c.args.forward) c.args.x c.args.y c.run_each.result.0 c.run_each.result.1 _ _ _ _ first second;
     }

@@ -24,7 +24,7 @@ returns-then-self-ge-CAPACITY g c =
     let m = model g.S.Store.book s in
     let n = standing_length s.standing s.count (omega (arith, s.few, s.whole)) in
     let full : 64 ≤ length (standing_of s) = omega (arith, n, c.if-self-ge-CAPACITY.true) in
-    let e = apply_full m c.args.q c.args.budget c.why-full.result full c.why-full.ensures in
+    let e = apply_full m c.args.q c.args.budget c.why_full.result full c.why_full.ensures in
     let code : ℕ → ℕ × ℕ × ℕ = λ k. (k, 0, 0) in
     record { answer = ap code c.code.ensures ∙ sym (ap numbers e); screen = sym (ap left e) }
 
