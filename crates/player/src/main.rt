@@ -13,6 +13,7 @@ mod text;
 use desk::Desk;
 use playing::play;
 use std::io::{BufRead, BufReader, BufWriter};
+use std::process::ExitCode;
 use std::{env, fs, io};
 use stops::Stop;
 
@@ -41,10 +42,10 @@ fn run(rt: &HostRuntime) -> Result<(), Stop> {
     }
 }
 
-fn main(rt: HostRuntime) -> Result<(), Stop> {
-    let result = run(&rt);
-    if let Err(stop) = &result {
-        let _ = eprintln!(rt; "player: {stop}");
-    }
-    result
+fn main(rt: HostRuntime) -> ExitCode {
+    let Err(stop) = run(&rt) else {
+        return ExitCode::SUCCESS;
+    };
+    let _ = eprintln!(rt; "player: {stop}");
+    ExitCode::FAILURE
 }
