@@ -5,8 +5,8 @@ use Rattle.std.proofs.lemmas.List.{get_or_past}
 use Rattle.std.proofs.lemmas.Bool.{and_parts, or_cases, not-true, ltb-true, leb-true, eqb-true, le-leb, cond-true, cases_lt, false≢true, both_ways}
 use Rattle.rules.specs.Book.{records, record_at, fits, all_words, is_book}
 use Rattle.rules.specs.Script.{Script, line_at, is_none, alike, turned_kind, terms_of, bracket, where_is}
-use Rattle.rules.specs.Check.{known, sort, reaches, names, form_of, form, among, within, terms_form, expression_form, apart, depth, checked}
-use Rattle.rules.specs.Step.{State, in_record, base, past, met, turn_of, kind_met, entry, found, find, read, rules, step, flipped}
+use Rattle.rules.specs.Check.{known, sort, reaches, names, form_of, form, among, within, terms_form, expression_form, depth, checked}
+use Rattle.rules.specs.Step.{State, in_record, base, past, met, turn_of, kind_met, entry, find, read, rules, step, flipped}
 use Rattle.rules.specs.declared.Spot.{Spot}
 use Rattle.rules.specs.declared.Spot.TheVariants.{InBook}
 use Rattle.rules.specs.declared.Line.{Line}

@@ -1,5 +1,5 @@
 -- A step taken, and then taken with the state turned round, gives the first state turned round.
-use Rattle.std.proofs.Common.{◌≡◌, ℕ, ◌-◌, true, false, not, List, [], ℤ, Ok, Result, sym, refl, ap, ◌∙◌, ap₂}
+use Rattle.std.proofs.Common.{◌≡◌, ℕ, true, false, not, List, [], ℤ, Ok, Result, sym, refl, ap, ◌∙◌, ap₂}
 use Rattle.std.specs.List.{AllByRecursion as All}
 use Rattle.rules.specs.Answer.{◌>>=◌, need}
 use Rattle.rules.specs.Word.{holds}

@@ -1,5 +1,5 @@
 -- A call and the return from it undo one another.
-use Rattle.std.proofs.Common.{◌≡◌, ℕ, ◌-◌, ◌<◌, Bool, true, false, cond, not, eqb, List, ◌∷◌, length, pos, Ok, Result, sym, refl, ap, ◌∙◌, ap₂}
+use Rattle.std.proofs.Common.{◌≡◌, ℕ, ◌<◌, Bool, true, false, cond, not, eqb, List, ◌∷◌, length, pos, Ok, Result, sym, refl, ap, ◌∙◌, ap₂}
 use Rattle.std.proofs.lemmas.Bool.{ltb-true, lt-ltb, cond-true}
 use Rattle.rules.specs.Answer.{◌>>=◌, need}
 use Rattle.rules.specs.Book.{named}

@@ -10,7 +10,7 @@ use Rattle.reversible.proofs.Runs.{restores}
 use Rattle.reversible.proofs.Mapped.{carries, turns_round}
 use Rattle.rules.specs.Answer.{◌>>=◌, need, either}
 use Rattle.rules.specs.Word.{eq_z, word, on_bits}
-use Rattle.rules.specs.Book.{record_at, named, clear, records, is_book}
+use Rattle.rules.specs.Book.{record_at, named, clear, records}
 use Rattle.rules.specs.Script.{Script, line_at, is_none, turned_kind, turned_line, turned, turned_script, where_is, has_method}
 use Rattle.rules.specs.Check.{checked}
 use Rattle.rules.specs.Step.{State, inside, find, read, value, past, met, turn_of, kind_met, entry, across, caller, callee, holding, with_book, with_locals, write, rules, rule, step, finished, opened, closed, allocated, freed, copied, uncopied, swapped, entered, left, returned}

@@ -1,5 +1,5 @@
 -- A finished state makes no step.
-use Rattle.std.proofs.Common.{◌≡◌, ◌-◌, Bool, true, false, eqb, [], length, get_or, Ok, Err, sym, refl, ap, ◌∙◌}
+use Rattle.std.proofs.Common.{◌≡◌, Bool, true, false, eqb, [], length, get_or, Ok, Err, sym, refl, ap, ◌∙◌}
 use Rattle.std.proofs.lemmas.Bool.{and_parts, eqb-true}
 use Rattle.std.proofs.lemmas.List.{nil_from_length}
 use Rattle.rules.specs.Script.{Script}

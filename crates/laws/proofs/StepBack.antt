@@ -1,6 +1,6 @@
 -- The law of steps: a step made, and one more with the direction turned round, lead back to the state turned round.
 -- What it asks of a state is listed kind by kind in the order of the rules.
-use Rattle.std.proofs.Common.{◌≡◌, ℕ, suc, ◌+◌, ◌-◌, ◌<◌, ◌≤◌, Bool, true, false, cond, not, ◌⊎◌, List, [], ◌∷◌, length, get_or, ℤ, pos, ◌+ℤ◌, ◌-ℤ◌, Ok, Err, Result, sym, refl, ap, ◌∙◌, ap₂, ⊎_elim, arith, w32, SFits}
+use Rattle.std.proofs.Common.{◌≡◌, ℕ, suc, ◌+◌, ◌-◌, ◌<◌, ◌≤◌, Bool, true, false, cond, not, ◌⊎◌, List, [], ◌∷◌, length, get_or, pos, ◌+ℤ◌, ◌-ℤ◌, Ok, Err, Result, sym, refl, ap, ◌∙◌, ap₂, ⊎_elim, arith, w32, SFits}
 use lib.Bits.{bit_xor}
 use Rattle.std.specs.List.{AllByRecursion as All}
 use Rattle.std.proofs.lemmas.Bool.{cases_lt}
@@ -9,7 +9,7 @@ use Rattle.rules.specs.Word.{word, on_bits}
 use Rattle.rules.specs.Book.{named}
 use Rattle.rules.specs.Script.{Script, line_at, terms_of, partner, where_is, is_none, turned_kind}
 use Rattle.rules.specs.Check.{known, names}
-use Rattle.rules.specs.Step.{State, find, read, base, entry, turn_of, met, kind_met, rules, rule, step, flipped, across, opened, entered, returned}
+use Rattle.rules.specs.Step.{State, find, read, base, entry, turn_of, met, kind_met, rules, rule, step, flipped, across, entered, returned}
 use Rattle.rules.specs.declared.Spot.{Spot}
 use Rattle.rules.specs.declared.Frame.{Frame}
 use Rattle.rules.specs.declared.Spot.TheVariants.{InBook}

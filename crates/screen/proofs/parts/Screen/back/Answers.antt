@@ -1,6 +1,6 @@
-use Rattle.std.proofs.Common.{◌≡◌, ℕ, ◌-◌, ◌<◌, List, length, ℤ, sym, ap, ◌∙◌, arith}
+use Rattle.std.proofs.Common.{◌≡◌, ℕ, ◌<◌, List, length, ℤ, sym, ap, ◌∙◌, arith}
 use Rattle.reversible.specs.Machine.{Outcome, done, bwd, run}
-use Rattle.reversible.specs.Ledger.{Answer, Entry, last, Screen as Model, screen_backed}
+use Rattle.reversible.specs.Ledger.{Answer, Entry, Screen as Model, screen_backed}
 use Rattle.rules.specs.Ledger.{screen_rules}
 use Rattle.rules.specs.Script.{Script}
 use Rattle.rules.specs.Run.{machine}
