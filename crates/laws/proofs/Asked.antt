@@ -1,6 +1,6 @@
 -- What the law of steps asks of a state follows from what the states of a run keep.
 use Rattle.std.proofs.Common.{◌≡◌, ℕ, zero, suc, ◌+◌, ◌-◌, ◌*◌, ◌%◌, ◌<◌, ◌≤◌, Bool, true, false, cond, not, ◌&&◌, ◌||◌, eqb, ltb, leb, ◌⊎◌, List, [], ◌∷◌, length, ℤ, Ok, Err, sym, refl, ap, ◌∙◌, subst, inl, inr, ⊎_elim, arith}
-use Rattle.std.specs.List.{AllByRecursion as All}
+use Rattle.std.specs.List.{AllByRecursion}
 use Rattle.std.proofs.lemmas.List.{get_or_past}
 use Rattle.std.proofs.lemmas.Bool.{and_parts, or_cases, not-true, ltb-true, leb-true, eqb-true, le-leb, cond-true, cases_lt, false≢true, both_ways}
 use Rattle.rules.specs.Book.{records, record_at, fits, all_words, is_book}
@@ -112,7 +112,7 @@ module _ (sc : Script) (l : ℕ) (F : Found sc l) where
   unnamed : is_none ln.x ≡ false → names ln.x (terms_of sc.terms ln) ≡ false
   unnamed n = ⊎_elim (λ t. absurd (both_ways (is_none ln.x) n t)) (λ t. not-true _ t) (or_cases (is_none ln.x) _ (and_parts (is_none ln.x || not (names ln.x (terms_of sc.terms ln))) _ F.separate).0)
 
-  sound : (d : ℕ) → expression_form sc.terms d ln ≡ true → All (Sound d) (terms_of sc.terms ln)
+  sound : (d : ℕ) → expression_form sc.terms d ln ≡ true → AllByRecursion (Sound d) (terms_of sc.terms ln)
   sound d e = terms_sound d _ (and_parts (terms_form d (terms_of sc.terms ln)) _ (and_parts (leb (ln.first + ln.count) (length sc.terms)) _ (and_parts (within 1 32 ln.count) _ e).1).1).0
 
 -- ---- kind by kind
@@ -173,22 +173,22 @@ module _ (sc : Script) (ok : checked sc ≡ accepted) (q : ℕ) (d : Bool) where
     asks_opens : met fw (line_at sc.lines l).kind ≡ 8 → Opens sc l s
     asks_opens h = record { depth = depth (st (past (not fw) l)); terms = by fw h; opened = deep }
       where
-        by : (fw : Bool) → met fw (line_at sc.lines l).kind ≡ 8 → All (Sound (depth (st (past (not fw) l)))) (terms_of sc.terms (line_at sc.lines l))
+        by : (fw : Bool) → met fw (line_at sc.lines l).kind ≡ 8 → AllByRecursion (Sound (depth (st (past (not fw) l)))) (terms_of sc.terms (line_at sc.lines l))
         by true h = sound sc l found_l _ (expression_as sc l found_l 8 h)
         by false h =
             let o = opens_depth sc ok l inside false h in
             let e : depth (st l) - 1 ≡ depth (st (suc l)) = omega arith in
-            subst (λ n. All (Sound n) (terms_of sc.terms (line_at sc.lines l))) e (sound sc l found_l _ (expression_as sc l found_l 9 (kind_of_lem false (line_at sc.lines l).kind 8 h)))
+            subst (λ n. AllByRecursion (Sound n) (terms_of sc.terms (line_at sc.lines l))) e (sound sc l found_l _ (expression_as sc l found_l 9 (kind_of_lem false (line_at sc.lines l).kind 8 h)))
 
     asks_closes : met fw (line_at sc.lines l).kind ≡ 9 → Closes sc l s
     asks_closes h =
         record { depth = depth (st (past fw l)); terms = by fw h; opened = deep ∙ ap (λ n. base s.frames + n) (closes_depth sc ok l inside fw h); few = F.few }
       where
-        by : (fw : Bool) → met fw (line_at sc.lines l).kind ≡ 9 → All (Sound (depth (st (past fw l)))) (terms_of sc.terms (line_at sc.lines l))
+        by : (fw : Bool) → met fw (line_at sc.lines l).kind ≡ 9 → AllByRecursion (Sound (depth (st (past fw l)))) (terms_of sc.terms (line_at sc.lines l))
         by true h =
             let o = closes_depth sc ok l inside true h in
             let e : depth (st l) - 1 ≡ depth (st (suc l)) = omega arith in
-            subst (λ n. All (Sound n) (terms_of sc.terms (line_at sc.lines l))) e (sound sc l found_l _ (expression_as sc l found_l 9 h))
+            subst (λ n. AllByRecursion (Sound n) (terms_of sc.terms (line_at sc.lines l))) e (sound sc l found_l _ (expression_as sc l found_l 9 h))
         by false h = sound sc l found_l _ (expression_as sc l found_l 8 (kind_of_lem false (line_at sc.lines l).kind 9 h))
 
     asks_refers : (j : ℕ) → (line_at sc.lines l).kind ≡ j → bracket j ≡ false → form_of j ≡ form false false ((2, 0) ∷ []) → Refers sc l s

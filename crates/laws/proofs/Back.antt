@@ -1,6 +1,6 @@
 -- A step taken, and then taken with the state turned round, gives the first state turned round.
 use Rattle.std.proofs.Common.{◌≡◌, ℕ, true, false, not, List, [], ℤ, Ok, Result, sym, refl, ap, ◌∙◌, ap₂}
-use Rattle.std.specs.List.{AllByRecursion as All}
+use Rattle.std.specs.List.{AllByRecursion}
 use Rattle.rules.specs.Answer.{◌>>=◌, need}
 use Rattle.rules.specs.Word.{holds}
 use Rattle.rules.specs.Script.{Script, partner, line_at, terms_of}
@@ -78,7 +78,7 @@ module _ (sc : Script) (l : ℕ) (f g : ℤ → ℤ → ℤ) (s t : State) (d : 
   abbrev ts : List Term
   ts = terms_of sc.terms (line_at sc.lines l)
 
-  value_kept : (u : Spot) (w : ℤ) → known x ≡ true → All (Sound d) ts → names x ts ≡ false → find s x ≡ Ok u
+  value_kept : (u : Spot) (w : ℤ) → known x ≡ true → AllByRecursion (Sound d) ts → names x ts ≡ false → find s x ≡ Ok u
       → value sc (write u w s) l ≡ value sc s l
   value_kept u w k h n e = worked_same (see (write u w s)) (see s) ts [] (unnamed s x u w d ts k e h n)
 
@@ -89,7 +89,7 @@ module _ (sc : Script) (l : ℕ) (f g : ℤ → ℤ → ℤ) (s t : State) (d : 
   written_back (InLocals i) v undo =
       ap₂ {C = Result State Refusal} (λ p b. Ok (go_to p (with_locals b (flipped s)))) (sym here) (put_back s.locals i (λ a. g a v) (f (read s (InLocals i)) v) undo)
 
-  pub changed_back : known x ≡ true → All (Sound d) ts → names x ts ≡ false
+  pub changed_back : known x ≡ true → AllByRecursion (Sound d) ts → names x ts ≡ false
       → ((v : ℤ) (u : Spot) → find s x ≡ Ok u → g (f (read s u) v) v ≡ read s u)
       → changed sc l s f ≡ Ok t → Undone (λ c. changed sc l c g) l s t
   changed_back k h n undo e =

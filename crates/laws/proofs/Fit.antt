@@ -1,6 +1,6 @@
 -- What every state of a run of an allowed script keeps.
 use Rattle.std.proofs.Common.{◌≡◌, ℕ, suc, ◌+◌, ◌-◌, ◌/◌, ◌<◌, ◌≤◌, Bool, true, false, cond, not, ◌⊎◌, List, [], ◌∷◌, length, ℤ, pos, Ok, sym, refl, ap, ◌∙◌, subst, arith, length-set}
-use Rattle.std.specs.List.{AllByRecursion as All}
+use Rattle.std.specs.List.{AllByRecursion}
 use Rattle.std.proofs.lemmas.Bool.{and_parts, and_from}
 use Rattle.rules.specs.Book.{records, fits, all_words, is_book}
 use Rattle.rules.specs.Script.{Script, line_at, is_none, turned_kind, terms_of}
@@ -63,11 +63,11 @@ module _ (sc : Script) (q : ℕ) (d : Bool) where
     pub few : length s.locals ≤ 256
     pub chain : Chain sc q (records s.book) s.frames s.present
     pub book : is_book s.book ≡ true
-    pub words : All IsWord s.locals
+    pub words : AllByRecursion IsWord s.locals
 
   -- a state with other words, as many, at another position of the method
   pub keep : (s : State) → Fit s → (p : ℕ) (lc bk : List ℤ) → p ≤ length sc.lines → In (cur sc q s.frames) (stack_at sc.lines p)
-      → length lc ≡ base s.frames + depth (stack_at sc.lines p) → length lc ≤ 256 → length bk ≡ length s.book → All IsWord lc → All IsWord bk
+      → length lc ≡ base s.frames + depth (stack_at sc.lines p) → length lc ≤ 256 → length bk ≡ length s.book → AllByRecursion IsWord lc → AllByRecursion IsWord bk
       → Fit (record { position = p; forward = s.forward; present = s.present; locals = lc; frames = s.frames; book = bk })
   keep s F p lc bk high within deep few same words ws =
       record {
@@ -84,7 +84,7 @@ module _ (sc : Script) (q : ℕ) (d : Bool) where
       sized : length bk ≡ length s.book → fits (length s.book) ≡ true → fits (length bk) ≡ true
       sized e h = rw e h
 
-  pub book_words : (s : State) → Fit s → All IsWord s.book
+  pub book_words : (s : State) → Fit s → AllByRecursion IsWord s.book
   book_words s F = words_from s.book (and_parts (fits (length s.book)) (all_words s.book) F.book).1
 
   pub read_word : (s : State) → Fit s → (u : Spot) → IsWord (read s u)
@@ -107,11 +107,11 @@ pub put_locals_length : (u : Spot) (v : ℤ) (b : List ℤ) → length (put_loca
 put_locals_length (InBook w) v b = refl
 put_locals_length (InLocals i) v b = length-set b i v
 
-pub put_book_words : (u : Spot) (v : ℤ) (b : List ℤ) → IsWord v → All IsWord b → All IsWord (put_book u v b)
+pub put_book_words : (u : Spot) (v : ℤ) (b : List ℤ) → IsWord v → AllByRecursion IsWord b → AllByRecursion IsWord (put_book u v b)
 put_book_words (InBook w) v b e h = all_set IsWord b w v h e
 put_book_words (InLocals i) v b e h = h
 
-pub put_locals_words : (u : Spot) (v : ℤ) (b : List ℤ) → IsWord v → All IsWord b → All IsWord (put_locals u v b)
+pub put_locals_words : (u : Spot) (v : ℤ) (b : List ℤ) → IsWord v → AllByRecursion IsWord b → AllByRecursion IsWord (put_locals u v b)
 put_locals_words (InBook w) v b e h = h
 put_locals_words (InLocals i) v b e h = all_set IsWord b i v h e
 

@@ -1,7 +1,7 @@
 -- Every step of an allowed script keeps what its states keep.
 use Rattle.std.proofs.Common.{◌≡◌, ℕ, suc, ◌+◌, ◌-◌, ◌<◌, ◌≤◌, Bool, true, false, cond, not, eqb, ltb, ◌⊎◌, List, [], ◌∷◌, ◌++◌, length, get_or, take, set, ℤ, pos, negsuc, ◌+ℤ◌, ◌-ℤ◌, Ok, Err, sym, refl, ap, ◌∙◌, subst, inl, inr, ⊎_elim, arith, length-set}
 use lib.Bits.{bit_xor}
-use Rattle.std.specs.List.{AllByRecursion as All}
+use Rattle.std.specs.List.{AllByRecursion}
 use Rattle.std.proofs.ByRecursion.{All-take}
 use Rattle.std.proofs.lemmas.List.{length_push, length-take-le, get_or_past}
 use Rattle.std.proofs.lemmas.Bool.{and_parts, ltb-true, cases_lt}
@@ -96,14 +96,14 @@ module _ (sc : Script) (ok : checked sc ≡ accepted) (q : ℕ) (d : Bool) where
 
     -- past the line, with as many words
     on : (k : ℕ) → met fw ln.kind ≡ k → (k ≡ 0 → ⊥) → (k ≡ 1 → ⊥) → (k ≡ 8 → ⊥) → (k ≡ 9 → ⊥) → (lc bk : List ℤ)
-        → length lc ≡ length s.locals → length bk ≡ length s.book → All IsWord lc → All IsWord bk
+        → length lc ≡ length s.locals → length bk ≡ length s.book → AllByRecursion IsWord lc → AllByRecursion IsWord bk
         → Fit sc q d (record { position = past fw l; forward = fw; present = s.present; locals = lc; frames = s.frames; book = bk })
     on k h n0 n1 n8 n9 lc bk e f w v =
         keep sc q d s F (past fw l) lc bk (past_high sc ok l inside fw) (pass sc ok l inside fw k (cur sc q s.frames) h n0 n1 stands)
         (e ∙ deep ∙ ap (λ n. base s.frames + n) (sym (pass_depth sc ok l inside fw k h n8 n9)))
         (let g = F.few in omega arith) f w v
 
-    wrote : (k : ℕ) → met fw ln.kind ≡ k → (k ≡ 0 → ⊥) → (k ≡ 1 → ⊥) → (k ≡ 8 → ⊥) → (k ≡ 9 → ⊥) → (u : Spot) (v : ℤ) → IsWord v → (bk : List ℤ) → length bk ≡ length s.book → All IsWord bk
+    wrote : (k : ℕ) → met fw ln.kind ≡ k → (k ≡ 0 → ⊥) → (k ≡ 1 → ⊥) → (k ≡ 8 → ⊥) → (k ≡ 9 → ⊥) → (u : Spot) (v : ℤ) → IsWord v → (bk : List ℤ) → length bk ≡ length s.book → AllByRecursion IsWord bk
         → Fit sc q d (record { position = past fw l; forward = fw; present = s.present; locals = put_locals u v s.locals; frames = s.frames; book = put_book u v bk })
     wrote k h n0 n1 n8 n9 u v w bk e ws =
         on k h n0 n1 n8 n9 (put_locals u v s.locals) (put_book u v bk) (put_locals_length u v s.locals) (put_book_length u v bk ∙ e)
@@ -171,7 +171,7 @@ module _ (sc : Script) (ok : checked sc ≡ accepted) (q : ℕ) (d : Bool) where
         let b = s.book in
         let z = get_or b 0 (pos 0) in
         let k = named b z in
-        let w : All IsWord b = book_words sc q d s F in
+        let w : AllByRecursion IsWord b = book_words sc q d s F in
         let (is, room) = named_is b z (ltb-true 0 k (and_parts (ltb 0 k) _ fit).0) in
         let kw : IsWord (pos k) = subst IsWord is (all_at IsWord b 0 (pos 0) w zero_word) in
         subst (Fit sc q d) (ok_same last)
@@ -185,7 +185,7 @@ module _ (sc : Script) (ok : checked sc ≡ accepted) (q : ℕ) (d : Bool) where
         held _ _ _ rest λ clear last.
         let b = s.book in
         let k = named b (read s u) in
-        let w : All IsWord b = book_words sc q d s F in
+        let w : AllByRecursion IsWord b = book_words sc q d s F in
         let (is, room) = named_is b (read s u) (ltb-true 0 k some) in
         let kw : IsWord (pos k) = subst IsWord is (read_word sc q d s F u) in
         subst (Fit sc q d) (ok_same last)

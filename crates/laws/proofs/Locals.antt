@@ -1,6 +1,6 @@
 -- local and delocal undo one another.
 use Rattle.std.proofs.Common.{◌≡◌, ℕ, zero, suc, ◌+◌, ◌-◌, ◌<◌, ◌≤◌, true, ltb, List, [], ◌∷◌, ◌++◌, length, get_or, take, ℤ, pos, Ok, Result, sym, refl, ap, ◌∙◌, ap₂, arith}
-use Rattle.std.specs.List.{AllByRecursion as All}
+use Rattle.std.specs.List.{AllByRecursion}
 use Rattle.std.proofs.lemmas.List.{length_push, get_or_push, get_or_append_left, get_or-take, take_at, take_more, take_all, length-take-le}
 use Rattle.std.proofs.lemmas.Bool.{and_parts, ltb-true, lt-ltb}
 use Rattle.rules.specs.Answer.{◌>>=◌, need}
@@ -32,7 +32,7 @@ module _ (s : State) (ls : List ℤ) (d : ℕ) (alike : (i : ℕ) → i < base s
   see_locals (F i) h = in_record_lem s.present (4 + i)
   see_locals (V i) h = ap {B = Result ℤ Refusal} Ok (alike (base s.frames + i) (omega (arith, ltb-true i d h)))
 
-  agree_locals : (ts : List Term) → All (Sound d) ts → All (Agree (see (with_locals ls s)) (see s)) ts
+  agree_locals : (ts : List Term) → AllByRecursion (Sound d) ts → AllByRecursion (Agree (see (with_locals ls s)) (see s)) ts
   agree_locals [] h = tt
   agree_locals (t ∷ ts) h = (
     (
@@ -42,7 +42,7 @@ module _ (s : State) (ls : List ℤ) (d : ℕ) (alike : (i : ℕ) → i < base s
     agree_locals ts h.1,
   )
 
-  value_locals : (sc : Script) (l : ℕ) → All (Sound d) (terms_of sc.terms (line_at sc.lines l)) → value sc (with_locals ls s) l ≡ value sc s l
+  value_locals : (sc : Script) (l : ℕ) → AllByRecursion (Sound d) (terms_of sc.terms (line_at sc.lines l)) → value sc (with_locals ls s) l ≡ value sc s l
   value_locals sc l h = let ts = terms_of sc.terms (line_at sc.lines l) in worked_same (see (with_locals ls s)) (see s) ts [] (agree_locals ts h)
 
 module _ (sc : Script) (l : ℕ) (s : State) (v : ℤ) (val : value sc s l ≡ Ok v) where
@@ -56,7 +56,7 @@ module _ (sc : Script) (l : ℕ) (s : State) (v : ℤ) (val : value sc s l ≡ O
       let m : length s.locals - 1 ≡ n = omega arith in
       rw (val, m, eq_z_from (get_or s.locals n (pos 0)) v h)
 
-module _ (sc : Script) (l : ℕ) (s t : State) (d : ℕ) (here : At l s) (form : All (Sound d) (terms_of sc.terms (line_at sc.lines l))) where
+module _ (sc : Script) (l : ℕ) (s t : State) (d : ℕ) (here : At l s) (form : AllByRecursion (Sound d) (terms_of sc.terms (line_at sc.lines l))) where
   came : State → State
   came c = flipped (go_to (past s.forward l) c)
 

@@ -1,7 +1,7 @@
 -- Two places that are written differently lie apart, so an expression does not see a write to a place that it does not name.
 use Rattle.std.proofs.Common.{◌≡◌, ℕ, zero, suc, ◌+◌, ◌-◌, true, false, cond, ◌&&◌, leb, List, [], ◌∷◌, get_or, set, ℤ, pos, Ok, Err, Result, sym, refl, ap, ◌∙◌, ap₂, arith}
 use mathlib.Core.Path.{fun_ext}
-use Rattle.std.specs.List.{AllByRecursion as All}
+use Rattle.std.specs.List.{AllByRecursion}
 use Rattle.std.proofs.lemmas.Bool.{and_parts, or_parts, eq-eqb, cond-true, both_ways, and_from}
 use Rattle.rules.specs.Answer.{◌>>=◌}
 use Rattle.rules.specs.Book.{record_at}
@@ -58,7 +58,7 @@ see_write s p q u v hp hq differ e = at (find s q) refl
 abbrev pub Agree : (Place → Result ℤ Refusal) → (Place → Result ℤ Refusal) → Term → Type 0
 Agree f g t = (f t.first ≡ g t.first) × (f t.second ≡ g t.second)
 
-pub worked_same : (f g : Place → Result ℤ Refusal) (ts : List Term) (vs : List ℤ) → All (Agree f g) ts → worked f ts vs ≡ worked g ts vs
+pub worked_same : (f g : Place → Result ℤ Refusal) (ts : List Term) (vs : List ℤ) → AllByRecursion (Agree f g) ts → worked f ts vs ≡ worked g ts vs
 unfolding worked
 worked_same f g [] [] h = refl
 worked_same f g [] (v ∷ []) h = refl
@@ -70,7 +70,7 @@ worked_same f g (t ∷ ts) vs h =
 abbrev pub Sound : ℕ → Term → Type 0
 Sound d t = (place_form d t.first ≡ true) × (place_form d t.second ≡ true)
 
-pub terms_sound : (d : ℕ) (ts : List Term) → terms_form d ts ≡ true → All (Sound d) ts
+pub terms_sound : (d : ℕ) (ts : List Term) → terms_form d ts ≡ true → AllByRecursion (Sound d) ts
 terms_sound d [] h = tt
 terms_sound d (t ∷ ts) h =
     let (first, rest) = and_parts (term_form d t) (terms_form d ts) h in
@@ -79,7 +79,7 @@ terms_sound d (t ∷ ts) h =
 
 -- terms that are allowed and do not name p agree before and after a write to p
 pub unnamed : (s : State) (p : Place) (u : Spot) (v : ℤ) (d : ℕ) (ts : List Term) → known p ≡ true → find s p ≡ Ok u
-    → All (Sound d) ts → names p ts ≡ false → All (Agree (see (write u v s)) (see s)) ts
+    → AllByRecursion (Sound d) ts → names p ts ≡ false → AllByRecursion (Agree (see (write u v s)) (see s)) ts
 unnamed s p u v d [] hp e h n = tt
 unnamed s p u v d (t ∷ ts) hp e h n =
     let (here, there) = or_parts _ _ n in

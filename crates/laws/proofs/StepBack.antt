@@ -2,7 +2,7 @@
 -- What it asks of a state is listed kind by kind in the order of the rules.
 use Rattle.std.proofs.Common.{◌≡◌, ℕ, suc, ◌+◌, ◌-◌, ◌<◌, ◌≤◌, Bool, true, false, cond, not, ◌⊎◌, List, [], ◌∷◌, length, get_or, pos, ◌+ℤ◌, ◌-ℤ◌, Ok, Err, Result, sym, refl, ap, ◌∙◌, ap₂, ⊎_elim, arith, w32, SFits}
 use lib.Bits.{bit_xor}
-use Rattle.std.specs.List.{AllByRecursion as All}
+use Rattle.std.specs.List.{AllByRecursion}
 use Rattle.std.proofs.lemmas.Bool.{cases_lt}
 use Rattle.std.proofs.lemmas.List.{get_or_past}
 use Rattle.rules.specs.Word.{word, on_bits}
@@ -40,7 +40,7 @@ module _ (sc : Script) (l : ℕ) (s : State) where
   pub record Changes : Type 0 where
     pub depth : ℕ
     pub place : known ln.x ≡ true
-    pub terms : All (Sound depth) (terms_of sc.terms ln)
+    pub terms : AllByRecursion (Sound depth) (terms_of sc.terms ln)
     pub apart : names ln.x (terms_of sc.terms ln) ≡ false
     pub word : (u : Spot) → find s ln.x ≡ Ok u → SFits w32 (read s u)
 
@@ -51,12 +51,12 @@ module _ (sc : Script) (l : ℕ) (s : State) where
 
   pub record Opens : Type 0 where
     pub depth : ℕ
-    pub terms : All (Sound depth) (terms_of sc.terms ln)
+    pub terms : AllByRecursion (Sound depth) (terms_of sc.terms ln)
     pub opened : length s.locals ≡ base s.frames + depth
 
   pub record Closes : Type 0 where
     pub depth : ℕ
-    pub terms : All (Sound depth) (terms_of sc.terms ln)
+    pub terms : AllByRecursion (Sound depth) (terms_of sc.terms ln)
     pub opened : length s.locals ≡ base s.frames + suc depth
     pub few : length s.locals ≤ 256
 

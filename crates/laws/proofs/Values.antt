@@ -3,7 +3,7 @@ use Rattle.std.proofs.Common.{◌≡◌, ℕ, zero, suc, ◌^◌, ◌<◌, Bool,
 use lib.Signed.{quot_z, rem_z}
 use lib.Bits.{bit_and, bit_or, bit_xor, and_lt, or_lt, xor_lt}
 use mir.ValLaws.{to_z-Fits}
-use Rattle.std.specs.List.{AllByRecursion as All}
+use Rattle.std.specs.List.{AllByRecursion}
 use Rattle.std.specs.Int.{int_wrap}
 use Rattle.std.proofs.lemmas.Int.{int_wrap_fits, SFits-int_wrap}
 use Rattle.std.proofs.lemmas.Bool.{and_parts, and_from}
@@ -44,25 +44,25 @@ zero_word = truth_word false
 
 -- ---- lists
 
-pub all_at : {A : Type 0} (P : A → Type 0) (xs : List A) (k : ℕ) (d : A) → All P xs → P d → P (get_or xs k d)
+pub all_at : {A : Type 0} (P : A → Type 0) (xs : List A) (k : ℕ) (d : A) → AllByRecursion P xs → P d → P (get_or xs k d)
 all_at P [] k d h e = e
 all_at P (x ∷ xs) zero d h e = h.0
 all_at P (x ∷ xs) (suc k) d h e = all_at P xs k d h.1 e
 
-pub all_set : {A : Type 0} (P : A → Type 0) (xs : List A) (k : ℕ) (v : A) → All P xs → P v → All P (set xs k v)
+pub all_set : {A : Type 0} (P : A → Type 0) (xs : List A) (k : ℕ) (v : A) → AllByRecursion P xs → P v → AllByRecursion P (set xs k v)
 all_set P [] k v h e = h
 all_set P (x ∷ xs) zero v h e = (e, h.1)
 all_set P (x ∷ xs) (suc k) v h e = (h.0, all_set P xs k v h.1 e)
 
-pub all_join : {A : Type 0} (P : A → Type 0) (xs ys : List A) → All P xs → All P ys → All P (xs ++ ys)
+pub all_join : {A : Type 0} (P : A → Type 0) (xs ys : List A) → AllByRecursion P xs → AllByRecursion P ys → AllByRecursion P (xs ++ ys)
 all_join P [] ys h k = k
 all_join P (x ∷ xs) ys h k = (h.0, all_join P xs ys h.1 k)
 
-pub words_from : (ws : List ℤ) → all_words ws ≡ true → All IsWord ws
+pub words_from : (ws : List ℤ) → all_words ws ≡ true → AllByRecursion IsWord ws
 words_from [] h = tt
 words_from (w ∷ ws) h = let (a, b) = and_parts (eq_z (word w) w) (all_words ws) h in (eq_z_true (word w) w a, words_from ws b)
 
-pub words_to : (ws : List ℤ) → All IsWord ws → all_words ws ≡ true
+pub words_to : (ws : List ℤ) → AllByRecursion IsWord ws → all_words ws ≡ true
 words_to [] h = refl
 words_to (w ∷ ws) h = and_from (eq_z (word w) w) (all_words ws) (eq_z_from (word w) w h.0) (words_to ws h.1)
 
@@ -84,7 +84,7 @@ divides g a b v e = by (eq_z b (pos 0)) e
 none : Gives no_operator
 none a b v e = ok_err e
 
-all_give : All Gives operators
+all_give : AllByRecursion Gives operators
 all_give =
     (none, (none, (none, (none, (gives _ (λ a b. word_is (a +ℤ b)), (gives _ (λ a b. word_is (a -ℤ b)), (gives _ xor_word, (gives _ (λ a b. word_is (a *ℤ b)), (divides quot_z, (divides rem_z, (gives _ (bits_word bit_and (and_lt 32)), (gives _ (bits_word bit_or (or_lt 32)), (gives _ (λ a b. truth_word _), (gives _ (λ a b. truth_word _), (gives _ (λ a b. truth_word _), (gives _ (λ a b. truth_word _), (gives _ (λ a b. truth_word _), (gives _ (λ a b. truth_word _), (gives _ (λ a b. truth_word _), (gives _ (λ a b. truth_word _), tt))))))))))))))))))))
 
@@ -95,10 +95,10 @@ operate_word k = all_at Gives operators k no_operator all_give none
 -- ---- expressions
 
 abbrev Words : (List ℤ → Result (List ℤ) Refusal) → Type 0
-Words f = (vs us : List ℤ) → All IsWord vs → f vs ≡ Ok us → All IsWord us
+Words f = (vs us : List ℤ) → AllByRecursion IsWord vs → f vs ≡ Ok us → AllByRecursion IsWord us
 
 onto_word : (v : ℤ) → IsWord v → Words (λ vs. onto vs v)
-onto_word v w vs us h e = chose (ltb (length vs) 16) _ _ e (λ _ f. subst (All IsWord) (ok_same f) (w, h)) (λ _ f. ok_err f)
+onto_word v w vs us h e = chose (ltb (length vs) 16) _ _ e (λ _ f. subst (AllByRecursion IsWord) (ok_same f) (w, h)) (λ _ f. ok_err f)
 
 operated_word : (k : ℕ) → Words (operated k)
 unfolding operated
@@ -130,7 +130,7 @@ taken_word t a b here =
     )
     (operated_word t.kind)
 
-pub worked_word : (see : Place → Result ℤ Refusal) → ((p : Place) (v : ℤ) → see p ≡ Ok v → IsWord v) → (ts : List Term) (vs : List ℤ) (v : ℤ) → All IsWord vs → worked see ts vs ≡ Ok v → IsWord v
+pub worked_word : (see : Place → Result ℤ Refusal) → ((p : Place) (v : ℤ) → see p ≡ Ok v → IsWord v) → (ts : List Term) (vs : List ℤ) (v : ℤ) → AllByRecursion IsWord vs → worked see ts vs ≡ Ok v → IsWord v
 unfolding worked
 worked_word see h [] [] v k e = ok_err e
 worked_word see h [] (w ∷ []) v k e = subst IsWord (ok_same e) k.0

@@ -1,7 +1,7 @@
 -- Worked figures: what the rules give in particular cases, as one list under one statement.
 -- Unless said, a book has two records, the head is 1, record 1 links to 2, and all else is 0.
 use Rattle.std.specs.Prelude.{◌≡◌, ℕ, List, [], ◌∷◌, replicate, ℤ, pos, negsuc, Ok, Err, Result, slice_set}
-use Rattle.std.specs.List.{AllByRecursion as All}
+use Rattle.std.specs.List.{AllByRecursion}
 use Rattle.reversible.specs.Machine.{Dir, fwd, bwd, run, after}
 use Rattle.reversible.specs.Ledger.{Call, load, apply, back, look, Answer, success, refusal, seen, accepted, plays, ledger_call, open_ledger}
 use Rattle.rules.specs.Kinds.{code}
@@ -205,7 +205,7 @@ figures =
     ∷ []
 
 abbrev pub Figures : Type 0
-Figures = All Holds figures
+Figures = AllByRecursion Holds figures
 
 -- further figures, each of which a likely error would change: a loop that forgets its entry test in later rounds, a call turned
 -- into an uncall, a delocal that does not compare, a test worked out too early; least and greatest words
@@ -222,4 +222,4 @@ edges =
     ∷ []
 
 abbrev pub Edges : Type 0
-Edges = All Holds edges
+Edges = AllByRecursion Holds edges

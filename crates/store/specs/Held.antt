@@ -2,7 +2,7 @@
 use Rattle.std.specs.Prelude.{◌≡◌, ℕ, ◌/◌, ◌%◌, ◌<◌, true, ◌⊎◌, List, [], ◌∷◌, length, ℤ, pos, negsuc, FitsSigned, ◌==◌, slice_index_or, refl}
 use Rattle.std.proofs.Common.{sym, ◌∙◌, ap, subst, inl, inr, ⊎_elim, arith}
 use Rattle.std.specs.Int.{w32}
-use Rattle.std.specs.List.{AllByRecursion as All}
+use Rattle.std.specs.List.{AllByRecursion}
 use Rattle.std.proofs.lemmas.Int.{SFits-int_wrap, int_wrap_fits}
 use Rattle.std.proofs.lemmas.List.FromFn.{length-map-range_with_len, get_or-map-range_with_len}
 use Rattle.std.proofs.ByRecursion.{All-from_get_or, All-get_or}
@@ -25,11 +25,11 @@ eq_z_same (negsuc m) (negsuc n) h = ap negsuc (eqb-true m n h)
 eq_z_same (pos m) (negsuc n) h = cc
 eq_z_same (negsuc m) (pos n) h = cc
 
-words_from_all : (b : List ℤ) → All Word b → all_words b ≡ true
+words_from_all : (b : List ℤ) → AllByRecursion Word b → all_words b ≡ true
 words_from_all [] h = refl
 words_from_all (z ∷ b) h = and_from _ _ (ap (λ y. eq_z y z) (int_wrap_fits w32 z h.0) ∙ eq_z_refl z) (words_from_all b h.1)
 
-all_from_words : (b : List ℤ) → all_words b ≡ true → All Word b
+all_from_words : (b : List ℤ) → all_words b ≡ true → AllByRecursion Word b
 all_from_words [] h = tt
 all_from_words (z ∷ b) h =
     let p = and_parts (eq_z (word z) z) (all_words b) h in
@@ -60,7 +60,7 @@ get_or_tab f n i d h = get_or-map-range_with_len f 0 n i i d h (omega arith)
 
 pub tab_held : (f : ℕ → ℤ) (n : ℕ) → Sized n → ((i : ℕ) → i < n → Word (f i)) → Held (tab f n)
 tab_held f n s ws =
-    let all : All Word (tab f n) =
+    let all : AllByRecursion Word (tab f n) =
     All-from_get_or Word (tab f n) (pos 0) (λ i h. let k : i < n = omega (arith, length_tab f n) in subst Word (sym (get_or_tab f n i (pos 0) k)) (ws i k)) in
     ⊎_elim
     (λ e. inl (length_tab f n ∙ e))
