@@ -13,7 +13,6 @@ import sys
 
 WORD = r"[^\s(){}\[\].,;:=λ→×⊎|\"`?⌜⌝«»!&]+"
 HEAD = re.compile(r"\s*(?:(?:abbrev|unfoldable|pub)\s+)*(?:(?:data|record)\s+)?(" + WORD + r")(?=\s*(?::\s|[({].*\)?\s:\s))")
-SECTION = re.compile(r"\s*module _")
 GOAL = re.compile(r"^(?:returns|loop|invariant|decreases|overflow|in-bounds)(?:-|$)|-(?:requires|init|preserved)$")
 
 # Names that would fall together with another (a lemma with the name of its function gets `_lem`), and two that name older words.
