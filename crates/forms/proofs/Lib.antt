@@ -1,1 +1,2 @@
 mod Expression
+mod Operators

@@ -4,27 +4,23 @@ ghost use Rattle.std.specs.Prelude.{◌≡◌};
 ghost use Rattle.forms.specs.Reading.{waiting_after, mentioned, read_in, read_over};
 
 use crate::{alike, term_form};
-use rules::{Line, Place, Refusal, Term};
+use rules::{Line, Place, Refusal, Term, TermKind};
 
 // How many values wait after a term, if it is well formed where `depth` locals are open and there is room.
 fn waiting_after(depth: usize, t: Term, waiting: u8) -> Option<u8>
     ensures { result ≡ waiting_after depth t waiting }
 {
+    let Ok(kind) = TermKind::try_from(t.kind) else {
+        return None;
+    };
     if !term_form(depth, t) {
         return None;
     }
-    if t.kind <= 3 {
-        if waiting < 16 {
-            Some(waiting + 1)
-        } else {
-            None
-        }
-    } else {
-        if 2 <= waiting {
-            Some(waiting - 1)
-        } else {
-            None
-        }
+    match kind {
+        TermKind::Operator(_) if waiting >= 2 => Some(waiting - 1),
+        TermKind::Operator(_) => None,
+        _ if waiting < 16 => Some(waiting + 1),
+        _ => None,
     }
 }
 

@@ -5,22 +5,30 @@
 ghost use Rattle.std.specs.Prelude.{◌≡◌};
 ghost use Rattle.rules.specs.Kinds.{code};
 ghost use Rattle.rules.specs.Script.{is_none, alike as are_alike};
-ghost use Rattle.rules.specs.Check.{known as is_known, sort as sort_of, reaches as is_open, form_of, uses_x, uses_y, among, well_filled, place_form, term_shape, term_form};
+ghost use Rattle.rules.specs.Check.{known as is_known, reaches as is_open, form_of, sort, uses_x, uses_y, among, well_filled, place_form, term_shape, term_form};
+ghost use Rattle.forms.specs.Sorts.{sort_code};
 
 mod expressions;
 
 pub use expressions::read_expression;
-use rules::{Kind, Line, Place, Term};
+use rules::{Kind, Line, Place, Term, TermKind};
+
+// What a place is for.
+#[derive(Clone, Copy, PartialEq, Eq)]
+enum Sort {
+    None,
+    Number,
+    Reference,
+}
 
 fn known(p: Place) -> bool
     ensures { result ≡ is_known p }
 {
     match p {
         Place::None => true,
-        Place::M(i) => 1 <= i && i <= 64,
-        Place::R(i) => 1 <= i && i <= 16,
-        Place::N(i) => i <= 3,
-        Place::F(i) => i <= 3,
+        Place::M(i) => (1..=64).contains(&i),
+        Place::R(i) => (1..=16).contains(&i),
+        Place::N(i) | Place::F(i) => i <= 3,
         Place::V(i) => i <= 15,
     }
 }
@@ -28,31 +36,22 @@ fn known(p: Place) -> bool
 pub fn is_none(p: Place) -> bool
     ensures { result ≡ is_none p }
 {
-    if let Place::None = p { true } else { false }
+    p == Place::None
 }
 
 pub fn alike(p: Place, q: Place) -> bool
     ensures { result ≡ are_alike p q }
 {
-    match (p, q) {
-        (Place::None, Place::None) => true,
-        (Place::M(i), Place::M(j)) => i == j,
-        (Place::R(i), Place::R(j)) => i == j,
-        (Place::N(i), Place::N(j)) => i == j,
-        (Place::F(i), Place::F(j)) => i == j,
-        (Place::V(i), Place::V(j)) => i == j,
-        _ => false,
-    }
+    p == q
 }
 
-// 0 no place, 1 a number place, 2 a reference place
-fn sort(p: Place) -> u8
-    ensures { result ≡ sort_of p }
+fn sort_of(p: Place) -> Sort
+    ensures { sort_code result ≡ sort p }
 {
     match p {
-        Place::None => 0,
-        Place::M(_) | Place::N(_) | Place::V(_) => 1,
-        Place::R(_) | Place::F(_) => 2,
+        Place::None => Sort::None,
+        Place::M(_) | Place::N(_) | Place::V(_) => Sort::Number,
+        Place::R(_) | Place::F(_) => Sort::Reference,
     }
 }
 
@@ -61,7 +60,7 @@ pub fn reaches(depth: usize, p: Place) -> bool
     ensures { result ≡ is_open depth p }
 {
     match p {
-        Place::V(i) => (i as usize) < depth,
+        Place::V(i) => usize::from(i) < depth,
         _ => true,
     }
 }
@@ -69,79 +68,73 @@ pub fn reaches(depth: usize, p: Place) -> bool
 fn uses_method(kind: Kind) -> bool
     ensures { result ≡ (form_of (code kind)).method }
 {
-    match kind {
-        Kind::Begin | Kind::End | Kind::Call | Kind::Uncall => true,
-        _ => false,
-    }
+    matches!(kind, Kind::Begin | Kind::End | Kind::Call | Kind::Uncall)
 }
 
 pub fn uses_expression(kind: Kind) -> bool
     ensures { result ≡ (form_of (code kind)).expression }
 {
-    match kind {
+    matches!(
+        kind,
         Kind::Add
-        | Kind::Subtract
-        | Kind::Xor
-        | Kind::If
-        | Kind::Fi
-        | Kind::From
-        | Kind::Until
-        | Kind::Local
-        | Kind::Delocal => true,
-        _ => false,
-    }
-}
-
-fn uses_x(kind: Kind) -> bool
-    ensures { result ≡ uses_x (form_of (code kind)).sorts }
-{
-    match kind {
-        Kind::Add
-        | Kind::Subtract
-        | Kind::Xor
-        | Kind::New
-        | Kind::Delete
-        | Kind::Copy
-        | Kind::Uncopy
-        | Kind::Swap => true,
-        _ => false,
-    }
-}
-
-fn uses_y(kind: Kind) -> bool
-    ensures { result ≡ uses_y (form_of (code kind)).sorts }
-{
-    match kind {
-        Kind::Copy | Kind::Uncopy | Kind::Swap | Kind::Call | Kind::Uncall => true,
-        _ => false,
-    }
-}
-
-// Whether the places of a line have sorts that its kind takes.
-pub fn well_sorted(kind: Kind, x: Place, y: Place) -> bool
-    ensures { result ≡ among (sort_of x) (sort_of y) (form_of (code kind)).sorts }
-{
-    match (kind, sort(x), sort(y)) {
-        (Kind::Add | Kind::Subtract | Kind::Xor, 1, 0) => true,
-        (Kind::New | Kind::Delete, 2, 0) => true,
-        (Kind::Copy | Kind::Uncopy, 2, 2) => true,
-        (Kind::Swap, 1, 1) => true,
-        (Kind::Swap, 2, 2) => true,
-        (Kind::Call | Kind::Uncall, 0, 0) => true,
-        (Kind::Call | Kind::Uncall, 0, 2) => true,
-        (
-            Kind::Begin
-            | Kind::End
+            | Kind::Subtract
+            | Kind::Xor
             | Kind::If
             | Kind::Fi
             | Kind::From
             | Kind::Until
             | Kind::Local
-            | Kind::Delocal,
-            0,
-            0,
-        ) => true,
-        _ => false,
+            | Kind::Delocal
+    )
+}
+
+fn uses_x(kind: Kind) -> bool
+    ensures { result ≡ uses_x (form_of (code kind)).sorts }
+{
+    matches!(
+        kind,
+        Kind::Add
+            | Kind::Subtract
+            | Kind::Xor
+            | Kind::New
+            | Kind::Delete
+            | Kind::Copy
+            | Kind::Uncopy
+            | Kind::Swap
+    )
+}
+
+fn uses_y(kind: Kind) -> bool
+    ensures { result ≡ uses_y (form_of (code kind)).sorts }
+{
+    matches!(
+        kind,
+        Kind::Copy | Kind::Uncopy | Kind::Swap | Kind::Call | Kind::Uncall
+    )
+}
+
+// Whether the places of a line have sorts that its kind takes.
+pub fn well_sorted(kind: Kind, x: Place, y: Place) -> bool
+    ensures { result ≡ among (sort x) (sort y) (form_of (code kind)).sorts }
+{
+    let sorts = (sort_of(x), sort_of(y));
+    match kind {
+        Kind::Add | Kind::Subtract | Kind::Xor => sorts == (Sort::Number, Sort::None),
+        Kind::New | Kind::Delete => sorts == (Sort::Reference, Sort::None),
+        Kind::Copy | Kind::Uncopy => sorts == (Sort::Reference, Sort::Reference),
+        Kind::Swap => matches!(
+            sorts,
+            (Sort::Number, Sort::Number) | (Sort::Reference, Sort::Reference)
+        ),
+        Kind::Call | Kind::Uncall => { matches!(sorts, (Sort::None, Sort::None | Sort::Reference)) }
+        Kind::Begin
+        | Kind::End
+        | Kind::If
+        | Kind::Fi
+        | Kind::From
+        | Kind::Until
+        | Kind::Local
+        | Kind::Delocal => sorts == (Sort::None, Sort::None),
     }
 }
 
@@ -149,7 +142,7 @@ pub fn well_sorted(kind: Kind, x: Place, y: Place) -> bool
 pub fn well_filled(line: Line) -> bool
     ensures { result ≡ well_filled line }
 {
-    let Some(kind) = Kind::of(line.kind) else {
+    let Ok(kind) = Kind::try_from(line.kind) else {
         return false;
     };
     let used = (uses_method(kind) | (line.q == 0))
@@ -169,12 +162,20 @@ fn place_form(depth: usize, p: Place) -> bool
 fn term_shape(t: Term) -> bool
     ensures { result ≡ term_shape t }
 {
-    match t.kind {
-        0 => is_none(t.first) & is_none(t.second),
-        1 => (sort(t.first) == 1) & (is_none(t.second) & (t.number == 0)),
-        2 => (sort(t.first) == 2) & (is_none(t.second) & (t.number == 0)),
-        3 => (sort(t.first) == 2) & ((sort(t.second) == 2) & (t.number == 0)),
-        _ => (t.kind <= 19) & (is_none(t.first) & (is_none(t.second) & (t.number == 0))),
+    let Ok(kind) = TermKind::try_from(t.kind) else {
+        return false;
+    };
+    let (first, second) = (sort_of(t.first), sort_of(t.second));
+    match kind {
+        TermKind::Number => (first == Sort::None) & (second == Sort::None),
+        TermKind::Word => (first == Sort::Number) & ((second == Sort::None) & (t.number == 0)),
+        TermKind::Nil => (first == Sort::Reference) & ((second == Sort::None) & (t.number == 0)),
+        TermKind::Same => {
+            (first == Sort::Reference) & ((second == Sort::Reference) & (t.number == 0))
+        }
+        TermKind::Operator(_) => {
+            (first == Sort::None) & ((second == Sort::None) & (t.number == 0))
+        }
     }
 }
 

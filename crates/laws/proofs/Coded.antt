@@ -1,35 +1,8 @@
--- The kind that a number stands for has that number.
-use Rattle.std.proofs.Common.{◌≡◌, ℕ, ◌<◌, ◌≤◌, Bool, true, false, eqb, ltb, leb, Some, None, Option, sym, refl, ap, ◌∙◌, ⊎_elim, arith}
-use Rattle.std.proofs.lemmas.List.{get_or_past}
-use Rattle.std.proofs.lemmas.Bool.{cases_lt, cond-false, le-leb, le-ltb, ne_eqb}
-use Rattle.rules.specs.Kinds.{code, kinds, kind_of}
+-- How the numbers of kinds are met backward.
+use Rattle.std.proofs.Common.{◌≡◌, ℕ, ◌<◌, ◌≤◌, Bool, true, false, eqb, ltb, sym, refl, ap, ◌∙◌, ⊎_elim, arith}
+use Rattle.std.proofs.lemmas.Bool.{cases_lt, cond-false, le-ltb, ne_eqb}
 use Rattle.rules.specs.Step.{met}
-use Rattle.rules.specs.declared.Kind.{Kind}
 use Rattle.laws.proofs.Turning.{each_at}
-
-abbrev coded : Option Kind → ℕ
-coded None = 18
-coded (Some k) = code k
-
-abbrev Coded : ℕ → Type 0
-Coded n = coded (kind_of n) ≡ n
-
-low : (n : ℕ) → n < 18 → Coded n
-low n h = each_at Coded 0 18 n (refl, (refl, (refl, (refl, (refl, (refl, (refl, (refl, (refl, (refl, (refl, (refl, (refl, (refl, (refl, (refl, (refl, (refl, tt)))))))))))))))))) (omega arith) (omega arith)
-
-high : (n : ℕ) → 18 ≤ n → kind_of n ≡ None
-high n h = get_or_past kinds n None h
-
-pub code_of : (n : ℕ) (k : Kind) → Some k ≡ kind_of n → code k ≡ n
-code_of n k e = ⊎_elim (λ h. ap coded e ∙ low n h) (λ h. let p = high n h in let z : ◌≡◌ {A = ℕ} 0 1 = cc in absurd (omega arith)) (cases_lt n 18)
-
-pub code_low : (n : ℕ) (k : Kind) → Some k ≡ kind_of n → leb (code k) 17 ≡ true
-code_low n k e =
-    let c = code_of n k e in
-    le-leb (code k) 17 (⊎_elim (λ h. omega arith) (λ h. let p = high n h in let z : ◌≡◌ {A = ℕ} 0 1 = cc in absurd (omega arith)) (cases_lt n 18))
-
-pub no_code : (n : ℕ) → None ≡ kind_of n → 18 ≤ n
-no_code n e = ⊎_elim (λ h. let p = ap coded e ∙ low n h in absurd (omega arith)) (λ h. h) (cases_lt n 18)
 
 pub met_high : (d : Bool) (k : ℕ) → 18 ≤ k → met d k ≡ k
 met_high true k h = refl

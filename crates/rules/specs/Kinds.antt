@@ -1,5 +1,7 @@
 -- The number of each kind of line.
-use Rattle.std.specs.Prelude.{ℕ, List, [], ◌∷◌, Some, None, Option, slice_index_or}
+use Rattle.std.specs.Prelude.{◌≡◌, ℕ, ◌<◌, Result, MatchResult}
+use Rattle.rules.specs.declared.Refusal.{Refusal}
+use Rattle.rules.specs.declared.Refusal.TheVariants.{Unknown}
 use Rattle.rules.specs.declared.Kind.{Kind}
 use Rattle.rules.specs.declared.Kind.TheVariants.{Begin, End, Add, Subtract, If, Fi, From, Until, Local, Delocal, New, Delete, Copy, Uncopy, Xor, Swap, Call, Uncall}
 
@@ -23,11 +25,6 @@ code Swap = 15
 code Call = 16
 code Uncall = 17
 
--- the kinds in the order of their numbers
-abbrev pub kinds : List (Option Kind)
-kinds =
-    Some Begin ∷ Some End ∷ Some Add ∷ Some Subtract ∷ Some If ∷ Some Fi ∷ Some From ∷ Some Until ∷ Some Local ∷ Some Delocal
-    ∷ Some New ∷ Some Delete ∷ Some Copy ∷ Some Uncopy ∷ Some Xor ∷ Some Swap ∷ Some Call ∷ Some Uncall ∷ []
-
-abbrev pub kind_of : ℕ → Option Kind
-kind_of k = slice_index_or kinds k None
+-- the kind with this number; where no kind has it, it is unknown
+abbrev pub Decodes : ℕ → Result Kind Refusal → Type 0
+Decodes n r = MatchResult r (λ kind. code kind ≡ n) (λ f. (f ≡ Unknown) × (17 < n))

@@ -1,5 +1,7 @@
 pub mod Kinds
+pub mod Terms
 pub mod Answer
+pub mod Words
 pub mod Word
 pub mod Book
 pub mod Script

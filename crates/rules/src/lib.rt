@@ -2,15 +2,18 @@
 
 #![tactic(auto)]
 
-ghost use Rattle.std.specs.Prelude.{◌≡◌, pos};
-ghost use Rattle.rules.specs.Answer.{number};
 ghost use Rattle.rules.specs.Figures.{Figures, Edges};
-ghost use Rattle.rules.specs.Kinds.{code, kind_of};
-ghost use Rattle.rules.specs.declared.Place.TheVariants.{None};
+
+mod building;
+mod numbers;
+mod telling;
+
+pub use numbers::NoRefusal;
 
 // A place that a line or a term names. The index is whatever the caller wrote; the check judges it.
-#[derive(Clone, Copy)]
+#[derive(Clone, Copy, Debug, PartialEq, Eq, Default)]
 pub enum Place {
+    #[default]
     None,
     // number mark
     M(u8),
@@ -25,7 +28,7 @@ pub enum Place {
 }
 
 // A line of a script. Its fields are whatever the caller wrote; the check judges them.
-#[derive(Clone, Copy)]
+#[derive(Clone, Copy, Debug, PartialEq, Eq, Default)]
 pub struct Line {
     pub kind: u8,
     pub x: Place,
@@ -38,7 +41,7 @@ pub struct Line {
 }
 
 // A term of a postfix expression.
-#[derive(Clone, Copy)]
+#[derive(Clone, Copy, Debug, PartialEq, Eq, Default)]
 pub struct Term {
     pub kind: u8,
     pub number: i32,
@@ -56,35 +59,8 @@ pub const NO_LINE: Line = Line {
     count: 0,
 };
 
-impl Line {
-    // A line of this kind with a method's number, and nothing else filled.
-    pub fn bare(kind: Kind, q: u8) -> Line
-        ensures { result ≡ record { kind = code kind; x = None; y = None; q = q; first = 0; count = 0 } }
-    {
-        Line {
-            kind: kind.code(),
-            q,
-            ..NO_LINE
-        }
-    }
-}
-
-impl Term {
-    // A term of this kind, and nothing else filled.
-    pub fn bare(kind: u8) -> Term
-        ensures { result ≡ record { kind = kind; number = pos 0; first = None; second = None } }
-    {
-        Term {
-            kind,
-            number: 0,
-            first: Place::None,
-            second: Place::None,
-        }
-    }
-}
-
 // The kinds of lines, in the order of their numbers.
-#[derive(Clone, Copy)]
+#[derive(Clone, Copy, Debug, PartialEq, Eq)]
 pub enum Kind {
     Begin,
     End,
@@ -106,44 +82,42 @@ pub enum Kind {
     Uncall,
 }
 
-impl Kind {
-    // The kind that a number stands for.
-    pub fn of(number: u8) -> Option<Kind>
-        ensures { result ≡ kind_of number }
-    {
-        match number {
-            0 => Some(Kind::Begin),
-            1 => Some(Kind::End),
-            2 => Some(Kind::Add),
-            3 => Some(Kind::Subtract),
-            4 => Some(Kind::If),
-            5 => Some(Kind::Fi),
-            6 => Some(Kind::From),
-            7 => Some(Kind::Until),
-            8 => Some(Kind::Local),
-            9 => Some(Kind::Delocal),
-            10 => Some(Kind::New),
-            11 => Some(Kind::Delete),
-            12 => Some(Kind::Copy),
-            13 => Some(Kind::Uncopy),
-            14 => Some(Kind::Xor),
-            15 => Some(Kind::Swap),
-            16 => Some(Kind::Call),
-            17 => Some(Kind::Uncall),
-            _ => None,
-        }
-    }
+// What a term is.
+#[derive(Clone, Copy, Debug, PartialEq, Eq)]
+pub enum TermKind {
+    Number,
+    // what a number place holds
+    Word,
+    // whether a reference place names no record
+    Nil,
+    // whether two reference places are equal
+    Same,
+    Operator(Operator),
+}
 
-    // The number of a kind.
-    pub fn code(self) -> u8
-        ensures { result ≡ code self }
-    {
-        self as u8
-    }
+// The operators of expressions, in the order of their numbers as kinds of terms.
+#[derive(Clone, Copy, Debug, PartialEq, Eq)]
+pub enum Operator {
+    Plus = 4,
+    Minus = 5,
+    Xor = 6,
+    Times = 7,
+    Over = 8,
+    Remainder = 9,
+    BitAnd = 10,
+    BitOr = 11,
+    And = 12,
+    Or = 13,
+    Less = 14,
+    Greater = 15,
+    Equal = 16,
+    NotEqual = 17,
+    AtMost = 18,
+    AtLeast = 19,
 }
 
 // Why a call or a step refuses.
-#[derive(Clone, Copy)]
+#[derive(Clone, Copy, Debug, PartialEq, Eq)]
 pub enum Refusal {
     // a table is too long
     TooLong = 1,
@@ -182,17 +156,8 @@ pub enum Refusal {
     SomethingStands = 23,
 }
 
-impl Refusal {
-    // The number of a refusal.
-    pub fn code(self) -> u32
-        ensures { result ≡ number self }
-    {
-        self as u32
-    }
-}
-
 // What a call keeps: its line, the record that was present before it, and the count of open locals.
-#[derive(Clone, Copy)]
+#[derive(Clone, Copy, Debug, PartialEq, Eq, Default)]
 pub struct Frame {
     pub line: u16,
     pub former: u16,
@@ -200,7 +165,7 @@ pub struct Frame {
 }
 
 // Where a place was found: a word of the book or an open local.
-#[derive(Clone, Copy)]
+#[derive(Clone, Copy, Debug, PartialEq, Eq)]
 pub enum Spot {
     InBook(u32),
     InLocals(usize),

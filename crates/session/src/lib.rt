@@ -7,7 +7,7 @@ ghost use Rattle.std.specs.Prelude.{◌≡◌};
 ghost use Rattle.std.specs.Int.{w32};
 ghost use Rattle.std.proofs.Common.{of_z};
 ghost use Rattle.rules.specs.Script.{letter, index};
-ghost use Rattle.session.specs.Digests.{basis, with_byte, with_number, with_line, lines_digest};
+ghost use Rattle.session.specs.Digests.{basis, with_byte, with_number, numbers, with_line, lines_digest};
 ghost use Rattle.session.specs.Places.{place_of, Inverse};
 
 use rules::{Line, Place};
@@ -19,6 +19,7 @@ pub fn empty_digest() -> u64
     0xcbf29ce484222325
 }
 
+#[tactic(auto, unfolding(crate::specs::Digests::with_byte))]
 fn with_byte(digest: u64, byte: u8) -> u64
     ensures { result ≡ with_byte digest byte }
 {
@@ -26,6 +27,7 @@ fn with_byte(digest: u64, byte: u8) -> u64
 }
 
 // The digest of one number more.
+#[tactic(auto, unfolding(crate::specs::Digests::with_number))]
 fn with_number(digest: u64, number: u32) -> u64
     ensures { result ≡ with_number digest number }
 {
@@ -64,36 +66,38 @@ fn index_of(place: Place) -> u8
     }
 }
 
-fn with_place(digest: u64, place: Place) -> u64
-    ensures { result ≡ with_number (with_number digest (letter place)) (index place) }
+// The numbers of a line: kind, x, y, q, first, count.
+fn numbers(line: Line) -> [u32; 8]
+    ensures { result ≡ numbers line }
 {
-    let sorted = with_number(digest, u32::from(sort(place)));
-    with_number(sorted, u32::from(index_of(place)))
+    [
+        u32::from(line.kind),
+        u32::from(sort(line.x)),
+        u32::from(index_of(line.x)),
+        u32::from(sort(line.y)),
+        u32::from(index_of(line.y)),
+        u32::from(line.q),
+        u32::from(line.first),
+        u32::from(line.count),
+    ]
 }
 
-// The digest of one line more: kind, x, y, q, first, count.
+// The digest of one line more.
 fn with_line(digest: u64, line: Line) -> u64
     ensures { result ≡ with_line digest line }
 {
-    let kind = with_number(digest, u32::from(line.kind));
-    let places = with_place(with_place(kind, line.x), line.y);
-    let q = with_number(places, u32::from(line.q));
-    let first = with_number(q, u32::from(line.first));
-    with_number(first, u32::from(line.count))
+    numbers(line).iter().copied().fold(digest, with_number)
 }
 
 // The digest of a table of lines.
 pub fn lines_digest(lines: &[Line]) -> u64
     ensures { result ≡ lines_digest lines.now }
 {
-    let mut digest = empty_digest();
-    for line in lines {
-        digest = with_line(digest, *line);
-    }
-    digest
+    lines.iter().copied().fold(empty_digest(), with_line)
 }
 
 // The place that is written by this letter and this index. No place but none is written otherwise.
+#[tactic(auto, using(crate::proofs::Inverses::inverse))]
 pub fn place_of(written: u8, i: u8) -> Option<Place>
     ensures value { result ≡ place_of written i }
     ensures inverse { Inverse }
