@@ -2,5 +2,5 @@ mod Stacks
 mod Lines
 mod Walks
 mod Turned
-mod Copied
+mod Made
 mod Partners

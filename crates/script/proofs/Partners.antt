@@ -1,13 +1,18 @@
 -- Looking for the other line of a pair, a line at a time.
-use Rattle.std.proofs.Common.{◌≡◌, ℕ, suc, ◌+◌, ◌-◌, ◌<◌, ◌≤◌, Bool, true, false, ◌&&◌, eqb, List, [], ◌∷◌, map, length, get_or, take, drop, set, replicate, sym, refl, ap, ◌∙◌, ⊎_elim, arith}
-use lib.ListN.{get_or-replicate}
-use Rattle.std.proofs.lemmas.List.{at_drop_more, at_drop_all, get_or-set_same, get_or-set_other, get_or_default}
-use Rattle.std.proofs.lemmas.Bool.{and_from, eq-eqb, ne_eqb, cases_eq, cond-true, cond-false}
+use Rattle.std.proofs.Common.{◌≡◌, ℕ, suc, ◌+◌, ◌-◌, ◌<◌, ◌≤◌, Bool, true, false, ◌&&◌, cond, eqb, List, [], ◌∷◌, ◌++◌, map, reverse, length, not, ltb, Some, None, get_or, take, drop, set, replicate, sym, refl, ap, ◌∙◌, ⊎_elim, arith}
+use Rattle.std.proofs.lemmas.List.{length-map, length-reverse, length-drop, take_all}
+use Rattle.std.specs.List.{position, position_or_len}
+use Rattle.std.specs.Prelude.{unwrap_or}
+use Rattle.std.proofs.lemmas.List.Sums.{prefix_len-le-length}
+use Rattle.std.proofs.lemmas.List.Recursion.{is_position_or_len}
+use Rattle.std.proofs.lemmas.List.{at_drop_more, at_drop_all, get_or_default, get_or_past}
+use Rattle.std.proofs.lemmas.Bool.{cond-true, cond-false, lt-ltb, le-ltb, cases_lt}
 use Rattle.rules.specs.Script.{turned_kind, turned_line, turned, opens, closes, deeper, to_closer, where_is, no_line, line_at, partner}
-use Rattle.script.specs.Programs.{closer_from, opener_from}
 use Rattle.rules.specs.declared.Line.{Line}
 use Rattle.laws.proofs.Methods.{where_here, where_next, where_none}
-use Rattle.laws.proofs.Fronts.{on_top}
+use Rattle.laws.proofs.Nest.{turned_append}
+use Rattle.std.proofs.Common.{take-append-drop}
+use Rattle.std.proofs.Math.Seq.{drop-append_seam}
 use Rattle.script.proofs.Stacks.{blank}
 
 at_closer : (l : Line) (ls : List Line) (d : ℕ) → (closes l.kind && eqb d 0) ≡ true → to_closer (l ∷ ls) d ≡ 0
@@ -43,95 +48,62 @@ module _ (ls : List Line) (j d n : ℕ) (inv : j + to_closer (drop j ls) d ≡ n
       let z = p ∙ at_none d in
       omega arith
 
--- ---- upwards from a closer
-
-module _ (ls : List Line) (k j d : ℕ) (low : 0 < j) (high : j ≤ k) (inside : k < length ls) (inv : (k - j) + to_closer (turned (take j ls)) d ≡ to_closer (turned (take k ls)) 0) where
-  abbrev above : Line
-  above = get_or ls (j - 1) blank
-
-  last : to_closer (turned (take j ls)) d ≡ to_closer (turned_line above ∷ turned (take (j - 1) ls)) d
-  last = ap (λ xs. to_closer (map turned_line xs) d) (on_top ls j blank (λ e. omega arith) (omega arith))
-
-  pub up_found : (closes (turned_kind above.kind) && eqb d 0) ≡ true → j - 1 ≡ k - suc (to_closer (turned (take k ls)) 0)
-  up_found e = let s = last ∙ at_closer (turned_line above) (turned (take (j - 1) ls)) d e in omega arith
-
-  pub up_goes : (closes (turned_kind above.kind) && eqb d 0) ≡ false → (k - (j - 1)) + to_closer (turned (take (j - 1) ls)) (deeper (turned_kind above.kind) d) ≡ to_closer (turned (take k ls)) 0
-  up_goes e = let s = last ∙ past_line (turned_line above) (turned (take (j - 1) ls)) d e in omega arith
-
-pub up_ends : (ls : List Line) (k d : ℕ) → (k - 0) + to_closer (turned (take 0 ls)) d ≡ to_closer (turned (take k ls)) 0 → 0 ≡ k - suc (to_closer (turned (take k ls)) 0)
-up_ends ls k d inv = let z = at_none d in omega arith
-
 pub deeper_low : (kind d : ℕ) → deeper kind d ≤ d + 1
 deeper_low kind d = grind arith
 
--- ---- the first line of a kind for each method
+-- ---- the first line of a kind and a method, as a search finds it
 
-test_false : (kind q : ℕ) (l : Line) → ((l.kind ≡ kind) → (l.q ≡ q) → ⊥) → (eqb l.kind kind && eqb l.q q) ≡ false
-test_false kind q l never =
-    ⊎_elim
-    (λ a. ⊎_elim (λ b. absurd (never a b)) (λ b. and_right (eqb l.kind kind) (ne_eqb l.q q b)) (cases_eq l.q q))
-    (λ a. ap (λ t. t && eqb l.q q) (ne_eqb l.kind kind a))
-    (cases_eq l.kind kind)
-  where
-    and_right : (a : Bool) {b : Bool} → b ≡ false → (a && b) ≡ false
-    and_right true e = e
-    and_right false e = refl
+module _ (kind q : ℕ) where
+  abbrev pub begins_here : Line → Bool
+  begins_here l = eqb l.kind kind && eqb l.q q
 
-module _ (ls : List Line) (kind : ℕ) where
-  pub none_past : (n q : ℕ) → n ≡ length ls → q < 256 → get_or (replicate 256 n) q 0 ≡ n + where_is kind q (drop n ls)
-  none_past n q e h =
-      let p : where_is kind q (drop n ls) ≡ where_is kind q [] = at_drop_all (where_is kind q) ls n (omega arith) in
-      let z = p ∙ where_none kind q in
-      get_or-replicate 256 q n 0 h ∙ omega arith
+  where_first : (ls : List Line) → where_is kind q ls ≡ position_or_len begins_here ls
+  unfolding where_is
+  where_first = is_position_or_len (where_is kind q) begins_here (where_none kind q) step
+    where
+      step : (l : Line) (ls : List Line) → where_is kind q (l ∷ ls) ≡ cond (begins_here l) 0 (1 + where_is kind q ls)
+      step l ls = by (begins_here l) (where_is kind q ls)
+        where
+          by : (b : Bool) (n : ℕ) → elim b as (λ _. ℕ) [ true ↦ 0 | false ↦ suc n ] ≡ cond b 0 (1 + n)
+          by true n = refl
+          by false n = omega arith
 
-  module _ (j : ℕ) (inside : j < length ls) (q : ℕ) where
-    abbrev at : Line
-    at = get_or ls j blank
-
-    split_first : where_is kind q (drop j ls) ≡ where_is kind q (at ∷ drop (j + 1) ls)
-    split_first = at_drop_more (where_is kind q) ls j blank inside
-
-    pub first_here : at.kind ≡ kind → at.q ≡ q → j ≡ j + where_is kind q (drop j ls)
-    first_here a b =
-        let z = split_first ∙ where_here kind q at (drop (j + 1) ls) (and_from _ _ (eq-eqb at.kind kind a) (eq-eqb at.q q b)) in
-        omega arith
-
-    pub first_later : ((at.kind ≡ kind) → (at.q ≡ q) → ⊥) → j + 1 + where_is kind q (drop (j + 1) ls) ≡ j + where_is kind q (drop j ls)
-    first_later never =
-        let z = split_first ∙ where_next kind q at (drop (j + 1) ls) (test_false kind q at never) in
-        omega arith
-
-  module _ (j : ℕ) (low : 0 < j) (high : j ≤ length ls) (table : List ℕ) (inv : (q : ℕ) → q < 256 → get_or table q 0 ≡ j + where_is kind q (drop j ls)) where
-    abbrev before : Line
-    before = get_or ls (j - 1) blank
-
-    moved : (q : ℕ) → (j - 1) + 1 + where_is kind q (drop ((j - 1) + 1) ls) ≡ j + where_is kind q (drop j ls)
-    moved q = let e : (j - 1) + 1 ≡ j = omega arith in ap (λ n. n + where_is kind q (drop n ls)) e
-
-    pub first_kept : (before.kind ≡ kind → ⊥) → (q : ℕ) → q < 256 → get_or table q 0 ≡ (j - 1) + where_is kind q (drop (j - 1) ls)
-    first_kept n q h = inv q h ∙ sym (moved q) ∙ first_later (j - 1) (omega arith) q (λ a _. n a)
-
-    pub first_set : length table ≡ 256 → before.kind ≡ kind → (q : ℕ) → q < 256 → get_or (set table before.q (j - 1)) q 0 ≡ (j - 1) + where_is kind q (drop (j - 1) ls)
-    first_set size a q h =
-        ⊎_elim
-        (λ same. ap (λ i. get_or (set table before.q (j - 1)) i 0) same ∙ get_or-set_same table before.q (j - 1) 0 (omega arith) ∙ first_here (j - 1) (omega arith) q a (sym same))
-        (λ other. get_or-set_other table before.q q (j - 1) 0 other ∙ inv q h ∙ sym (moved q) ∙ first_later (j - 1) (omega arith) q (λ _ b. other (sym b)))
-        (cases_eq q before.q)
+  pub where_found : (ls : List Line) → where_is kind q ls ≡ unwrap_or (position begins_here ls) (length ls)
+  where_found ls =
+      let n = length ls in
+      let i = position_or_len begins_here ls in
+      let low = prefix_len-le-length (λ l. not (begins_here l)) ls in
+      where_first ls
+      ∙ ⊎_elim
+      (λ h. sym (ap (λ t. unwrap_or (cond t (Some i) None) n) (lt-ltb i n h)))
+      (λ h. let e : i ≡ n = omega (arith, low) in e ∙ sym (ap (λ t. unwrap_or (cond t (Some i) None) n) (le-ltb i n h)))
+      (cases_lt i n)
 
 -- ---- the partner of a line, by what its kind does
 
-module _ (ls : List Line) (k : ℕ) (inside : k < length ls) where
-  kind_at : (line_at ls k).kind ≡ (get_or ls k blank).kind
-  kind_at = ap (λ l. l.kind) (get_or_default ls k no_line blank inside)
-
-  pub partner_opener : opens (get_or ls k blank).kind ≡ true → partner ls k ≡ closer_from ls k
+module _ (ls : List Line) (k : ℕ) (l : Line) (here : line_at ls k ≡ l) where
+  pub partner_opener : opens l.kind ≡ true → partner ls k ≡ suc k + to_closer (drop (suc k) ls) 0
   unfolding partner
-  partner_opener e = cond-true (opens (line_at ls k).kind) _ _ (ap opens kind_at ∙ e)
+  partner_opener e = cond-true (opens (line_at ls k).kind) _ _ (ap (λ x. opens x.kind) here ∙ e)
 
-  pub partner_closer : opens (get_or ls k blank).kind ≡ false → closes (get_or ls k blank).kind ≡ true → partner ls k ≡ opener_from ls k
+  pub partner_closer : opens l.kind ≡ false → closes l.kind ≡ true → partner ls k ≡ k - suc (to_closer (turned (take k ls)) 0)
   unfolding partner
-  partner_closer e f = cond-false (opens (line_at ls k).kind) _ _ (ap opens kind_at ∙ e) ∙ cond-true (closes (line_at ls k).kind) _ _ (ap closes kind_at ∙ f)
+  partner_closer e f = cond-false (opens (line_at ls k).kind) _ _ (ap (λ x. opens x.kind) here ∙ e) ∙ cond-true (closes (line_at ls k).kind) _ _ (ap (λ x. closes x.kind) here ∙ f)
 
-  pub partner_none : opens (get_or ls k blank).kind ≡ false → closes (get_or ls k blank).kind ≡ false → partner ls k ≡ k
+  pub partner_none : opens l.kind ≡ false → closes l.kind ≡ false → partner ls k ≡ k
   unfolding partner
-  partner_none e f = cond-false (opens (line_at ls k).kind) _ _ (ap opens kind_at ∙ e) ∙ cond-false (closes (line_at ls k).kind) _ _ (ap closes kind_at ∙ f)
+  partner_none e f = cond-false (opens (line_at ls k).kind) _ _ (ap (λ x. opens x.kind) here ∙ e) ∙ cond-false (closes (line_at ls k).kind) _ _ (ap (λ x. closes x.kind) here ∙ f)
+
+pub partner_past : (ls : List Line) (k : ℕ) → length ls ≤ k → partner ls k ≡ k
+unfolding partner
+partner_past ls k h = rw (get_or_past ls k no_line h) refl
+
+pub rest_of : (ls : List Line) (n : ℕ) → take (length ls - n) (drop n ls) ≡ drop n ls
+rest_of ls n = take_all (length ls - n) (drop n ls) (omega (arith, length-drop n ls))
+
+-- the lines before line k, turned, are the last of the turned lines
+pub turned_before : (ls : List Line) (k : ℕ) → k ≤ length ls → drop (length ls - k) (turned ls) ≡ turned (take k ls)
+turned_before ls k h =
+    let parts : turned ls ≡ turned (drop k ls) ++ turned (take k ls) = ap turned (sym (take-append-drop k ls)) ∙ turned_append (take k ls) (drop k ls) in
+    let size : length (turned (drop k ls)) ≡ length ls - k = length-map (reverse (drop k ls)) turned_line ∙ length-reverse (drop k ls) ∙ length-drop k ls in
+    ap (drop (length ls - k)) parts ∙ ap (λ n. drop n (turned (drop k ls) ++ turned (take k ls))) (sym size) ∙ drop-append_seam (turned (drop k ls)) (turned (take k ls))

@@ -1,5 +1,5 @@
 -- The check's walk over the lines, a line at a time.
-use Rattle.std.proofs.Common.{◌≡◌, ℕ, suc, ◌+◌, ◌<◌, ◌≤◌, Bool, true, false, cond, not, ◌&&◌, eqb, ltb, ◌≢◌, List, [], ◌∷◌, length, get_or, drop, set, Ok, Err, sym, refl, ap, ◌∙◌, ⊎_elim, add-one, arith}
+use Rattle.std.proofs.Common.{◌≡◌, ℕ, suc, ◌+◌, ◌<◌, ◌≤◌, Bool, true, false, cond, not, ◌&&◌, eqb, ltb, ◌≢◌, List, [], ◌∷◌, length, get_or, drop, set, Some, None, Option, Ok, Err, sym, refl, ap, ap₂, ◌∙◌, ⊎_elim, add-one, arith}
 use Rattle.std.proofs.lemmas.List.{at_drop_more, at_drop_all, get_or-set_same, get_or-set_other}
 use Rattle.std.proofs.lemmas.Bool.{eqb-true, eq-eqb, ne_eqb, lt-ltb, le-ltb, cases_eq, cases_lt}
 use Rattle.reversible.specs.Ledger.{Verdict, accepted, rejected}
@@ -11,6 +11,8 @@ use Rattle.rules.specs.declared.Refusal.{Refusal}
 use Rattle.rules.specs.declared.Refusal.TheVariants.{Unpaired, WrongMethod}
 use Rattle.laws.proofs.Methods.{where_at, where_hit}
 use Rattle.script.specs.Judging.{judged_by, noted}
+use Rattle.script.specs.Verdicts.{Knows, missing}
+use Rattle.std.specs.List.{position, position_or_len}
 use Rattle.script.proofs.Lines.{judged_as, method_low}
 
 -- the methods begun by the first k lines
@@ -81,19 +83,37 @@ module _ (sc : Script) (k : ℕ) (os : List Line) (V : Verdict Refusal) (inv : w
   pub all_closed : os ≡ [] → length sc.lines ≤ k → V ≡ calls sc.lines 0 sc.lines
   all_closed e h = sym (at_end h) ∙ ap (λ x. walked sc k x []) e
 
-module _ (ls : List Line) (k : ℕ) (V : Verdict Refusal) (inv : calls ls k (drop k ls) ≡ V) where
-  call_more : (d : Line) (b : Bool) → k < length ls → (within 16 17 (get_or ls k d).kind && not (has_method ls (get_or ls k d).q)) ≡ b
-      → elim b as (λ _. Verdict Refusal) [ true ↦ rejected WrongMethod k | false ↦ calls ls (suc k) (drop (k + 1) ls) ] ≡ V
-  call_more d b h e =
-      let l = get_or ls k d in
-      let p : calls ls k (drop k ls) ≡ elim (within 16 17 l.kind && not (has_method ls l.q)) as (λ _. Verdict Refusal) [ true ↦ rejected WrongMethod k | false ↦ calls ls (suc k) (drop (k + 1) ls) ] = at_drop_more (calls ls k) ls k d h in
-      ap (λ b. elim b as (λ _. Verdict Refusal) [ true ↦ rejected WrongMethod k | false ↦ calls ls (suc k) (drop (k + 1) ls) ]) (sym e) ∙ sym p ∙ inv
+-- what a search for a call of a missing method gives
+abbrev pub called : Option ℕ → Verdict Refusal
+called None = accepted
+called (Some k) = rejected WrongMethod k
 
-  pub call_goes : (d : Line) → k < length ls → (within 16 17 (get_or ls k d).kind && not (has_method ls (get_or ls k d).q)) ≡ false → calls ls (k + 1) (drop (k + 1) ls) ≡ V
-  call_goes d h e = ap (λ j. calls ls j (drop (k + 1) ls)) (add-one k) ∙ call_more d false h e
+module _ (all : List Line) (begun : List Bool) (knows : Knows begun all) where
+  abbrev pub misses : Line → Bool
+  misses l = missing l begun
 
-  pub call_stops : (d : Line) → k < length ls → (within 16 17 (get_or ls k d).kind && not (has_method ls (get_or ls k d).q)) ≡ true → V ≡ rejected WrongMethod k
-  call_stops d h e = sym (call_more d true h e)
+  abbrev place : List Line → ℕ
+  place ls = position_or_len misses ls
 
-  pub call_ends : length ls ≤ k → V ≡ accepted
-  call_ends h = let p : calls ls k (drop k ls) ≡ accepted = at_drop_all (calls ls k) ls k h in sym inv ∙ p
+  later : (m n : ℕ) → ltb m n ≡ ltb (1 + m) (suc n)
+  later m n = ⊎_elim (λ h. lt-ltb m n h ∙ sym (lt-ltb (1 + m) (suc n) (omega arith))) (λ h. le-ltb m n h ∙ sym (le-ltb (1 + m) (suc n) (omega arith))) (cases_lt m n)
+
+  searched : (k : ℕ) (ls : List Line) → calls all k ls ≡ cond (ltb (place ls) (length ls)) (rejected WrongMethod (k + place ls)) accepted
+  searched k [] = refl
+  searched k (l ∷ ls) =
+      ap (λ b. choose (within 16 17 l.kind && not b)) (sym (knows l.q)) ∙ by (misses l) (searched (suc k) ls)
+    where
+      choose : Bool → Verdict Refusal
+      choose b = elim b as (λ _. Verdict Refusal) [ true ↦ rejected WrongMethod k | false ↦ calls all (suc k) ls ]
+
+      by : (b : Bool) → calls all (suc k) ls ≡ cond (ltb (place ls) (length ls)) (rejected WrongMethod (suc k + place ls)) accepted
+          → choose b ≡ cond (ltb (cond (not b) (1 + place ls) 0) (suc (length ls))) (rejected WrongMethod (k + cond (not b) (1 + place ls) 0)) accepted
+      by true e = rw (lt-ltb 0 (suc (length ls)) (omega arith)) (ap (rejected WrongMethod) (omega arith))
+      by false e = e ∙ ap₂ (λ t n. cond t (rejected WrongMethod n) accepted) (later (place ls) (length ls)) (omega arith)
+
+  pub calls_searched : calls all 0 all ≡ called (position misses all)
+  calls_searched = searched 0 all ∙ ap (λ n. cond (ltb (place all) (length all)) (rejected WrongMethod n) accepted) (omega arith) ∙ by (ltb (place all) (length all))
+    where
+      by : (b : Bool) → cond b (rejected WrongMethod (place all)) accepted ≡ called (cond b (Some (place all)) None)
+      by true = refl
+      by false = refl

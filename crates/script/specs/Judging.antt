@@ -1,5 +1,5 @@
--- The check of one line as the code makes it, with the openers in an array.
-use Rattle.std.specs.Prelude.{ℕ, ◌-◌, Bool, true, false, cond, not, ◌&&◌, ◌||◌, List, [], ◌∷◌, reverse, take, Some, None, Ok, Err, Option, Result, ◌==◌, nat_lt, slice_index_or, slice_set}
+-- The check of one line as the code makes it.
+use Rattle.std.specs.Prelude.{ℕ, ◌-◌, Bool, true, false, cond, not, ◌&&◌, ◌||◌, List, Ok, Err, Result, ◌==◌, nat_lt, slice_index_or, slice_set}
 use Rattle.rules.specs.Kinds.{code}
 use Rattle.rules.specs.declared.Kind.TheVariants.{Begin, Local, Delocal, Copy, Uncopy}
 use Rattle.rules.specs.Script.{is_none, alike}
@@ -9,18 +9,6 @@ use Rattle.rules.specs.declared.Line.{Line}
 use Rattle.rules.specs.declared.Term.{Term}
 use Rattle.rules.specs.declared.Refusal.{Refusal}
 use Rattle.rules.specs.declared.Refusal.TheVariants.{Unknown, Unpaired, WrongMethod, Malformed, SelfNamed}
-use Rattle.script.specs.declared.openers.Openers.{Openers}
-
--- the openers, the last opened first
-abbrev pub openers_of : Openers → List Line
-openers_of o = reverse (take o.count o.lines)
-
-abbrev pub last_of : List Line → Option Line
-last_of [] = None
-last_of (o ∷ os) = Some o
-
-abbrev pub local_count : Line → ℕ
-local_count l = cond (l.kind == code Local) 1 0
 
 -- ---- one line
 

@@ -1,3 +1,4 @@
 pub mod Programs
 pub mod Judging
 pub mod Verdicts
+pub mod Methods

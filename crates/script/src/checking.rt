@@ -1,18 +1,34 @@
 // The check.
 
-ghost use Rattle.std.specs.Prelude.{◌≡◌, ◌≤◌, length};
+ghost use Rattle.std.specs.Prelude.{◌≡◌, ◌^◌, ◌<◌, ◌≤◌, length, position};
 ghost use Rattle.rules.specs.Check.{checked};
 ghost use Rattle.script.specs.Verdicts.{script_from, verdict, LinesChecked, CallsChecked, Knows, missing};
 
 use crate::judging::{judge, note};
-use crate::nesting::{nothing_open, pass};
-use rules::{Line, Refusal, Term};
+use crate::openers::Openers;
+use rules::{Kind, Line, Refusal, Term};
 
 // Why a script is rejected, and at which line; the number of lines where a pair is left open.
-#[derive(Clone, Copy)]
+#[derive(Clone, Copy, Debug, PartialEq, Eq)]
 pub struct Fault {
     pub refusal: Refusal,
     pub line: u16,
+}
+
+pub(crate) const TOO_LONG: Fault = Fault {
+    refusal: Refusal::TooLong,
+    line: 0,
+};
+
+// The fault of line k.
+fn fault_at(refusal: Refusal, k: usize) -> Fault
+    requires { k < 2 ^ 16 }
+    ensures { result ≡ record { refusal = refusal; line = k } }
+{
+    Fault {
+        refusal,
+        line: k as u16,
+    }
 }
 
 // The lines in order, then pairs left open; it gives the methods that are begun.
@@ -20,48 +36,46 @@ fn check_lines(lines: &[Line], terms: &[Term]) -> Result<[bool; 256], Fault>
     requires { length lines.now ≤ 256 }
     ensures { LinesChecked result (script_from lines.now terms.now) }
 {
-    let mut openers = nothing_open();
+    let mut openers = Openers::new();
     let mut begun = [false; 256];
     for (k, line) in lines.iter().enumerate() {
         if let Err(refusal) = judge(&openers, &begun, *line, terms) {
-            return Err(Fault {
-                refusal,
-                line: k as u16,
-            });
+            return Err(fault_at(refusal, k));
         }
-        pass(&mut openers, *line);
+        openers.pass(*line);
         note(&mut begun, *line);
     }
-    if openers.count > 0 {
-        return Err(Fault {
-            refusal: Refusal::Unpaired,
-            line: lines.len() as u16,
-        });
+    if openers.is_empty() {
+        Ok(begun)
+    } else {
+        Err(fault_at(Refusal::Unpaired, lines.len()))
     }
-    Ok(begun)
 }
 
 // Whether a line calls a method that is not begun.
 fn misses(line: Line, begun: &[bool; 256]) -> bool
     ensures { result ≡ missing line begun.now }
 {
-    ((16 <= line.kind) & (line.kind <= 17)) & !begun[line.q as usize]
+    (line.is(Kind::Call) | line.is(Kind::Uncall)) & !begun[usize::from(line.q)]
 }
 
-// The first call of a method that is not begun.
+// Where the first call of a method that is not begun stands.
+fn find_missing(lines: &[Line], begun: &[bool; 256]) -> Option<usize>
+    ensures { result ≡ position (λ l. missing l begun.now) lines.now }
+{
+    lines.iter().position(|line| misses(*line, begun))
+}
+
+// The calls of methods that are not begun.
 fn check_calls(lines: &[Line], begun: &[bool; 256]) -> Result<(), Fault>
-    requires { (length lines.now ≤ 256) × (Knows begun.now lines.now) }
+    requires few { length lines.now ≤ 256 }
+    requires begun { Knows begun.now lines.now }
     ensures { CallsChecked result lines.now }
 {
-    for (k, line) in lines.iter().enumerate() {
-        if misses(*line, begun) {
-            return Err(Fault {
-                refusal: Refusal::WrongMethod,
-                line: k as u16,
-            });
-        }
+    match find_missing(lines, begun) {
+        None => Ok(()),
+        Some(k) => Err(fault_at(Refusal::WrongMethod, k)),
     }
-    Ok(())
 }
 
 // Whether the rules allow a script, and if not, the first fault in the order of the rules and its line.
@@ -69,10 +83,7 @@ pub fn check(lines: &[Line], terms: &[Term]) -> Result<(), Fault>
     ensures { verdict result ≡ checked (script_from lines.now terms.now) }
 {
     if lines.len() > 256 || terms.len() > 1024 {
-        return Err(Fault {
-            refusal: Refusal::TooLong,
-            line: 0,
-        });
+        return Err(TOO_LONG);
     }
     let begun = check_lines(lines, terms)?;
     check_calls(lines, &begun)

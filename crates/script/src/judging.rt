@@ -1,9 +1,8 @@
 // What the check finds of one line.
 
 ghost use Rattle.std.specs.Prelude.{◌≡◌};
-ghost use Rattle.script.specs.Judging.{openers_of, placed_at, named_in, apart_from, judged_by, noted};
+ghost use Rattle.script.specs.Judging.{placed_at, named_in, apart_from, judged_by, noted};
 
-use crate::nesting::nests;
 use crate::openers::Openers;
 use forms::{alike, is_none, reaches, read_expression, uses_expression, well_filled, well_sorted};
 use rules::{Kind, Line, Refusal, Term};
@@ -12,36 +11,31 @@ use rules::{Kind, Line, Refusal, Term};
 fn placed(locals: usize, line: Line) -> bool
     ensures { result ≡ placed_at locals line }
 {
-    let Some(kind) = Kind::of(line.kind) else {
+    let Ok(kind) = Kind::try_from(line.kind) else {
         return false;
     };
     well_sorted(kind, line.x, line.y)
-        & ((reaches(locals, line.x) & reaches(locals, line.y)) & ((line.kind != 8) | (locals < 16)))
+        & ((reaches(locals, line.x) & reaches(locals, line.y))
+            & (!line.is(Kind::Local) | (locals < 16)))
 }
 
 // Whether the expression, if the kind has one, names x. A delocal's expression does not see the local that it closes.
 fn named_in(terms: &[Term], locals: usize, line: Line) -> Result<bool, Refusal>
     ensures { result ≡ named_in terms.now locals line }
 {
-    let Some(kind) = Kind::of(line.kind) else {
-        return Ok(false);
-    };
-    if !uses_expression(kind) {
-        return Ok(false);
+    match Kind::try_from(line.kind) {
+        Ok(Kind::Delocal) => read_expression(terms, locals.saturating_sub(1), line),
+        Ok(kind) if uses_expression(kind) => read_expression(terms, locals, line),
+        _ => Ok(false),
     }
-    let seen = if line.kind == 9 {
-        locals.saturating_sub(1)
-    } else {
-        locals
-    };
-    read_expression(terms, seen, line)
 }
 
 // x is not named in its own expression, and copy and uncopy have two places.
 fn apart(named: bool, line: Line) -> bool
     ensures { result ≡ apart_from named line }
 {
-    (is_none(line.x) | !named) & (!((12 <= line.kind) & (line.kind <= 13)) | !alike(line.x, line.y))
+    (is_none(line.x) | !named)
+        & (!(line.is(Kind::Copy) | line.is(Kind::Uncopy)) | !alike(line.x, line.y))
 }
 
 // One line, after those that left these openers and began these methods.
@@ -51,21 +45,22 @@ pub(crate) fn judge(
     line: Line,
     terms: &[Term],
 ) -> Result<(), Refusal>
-    ensures { result ≡ judged_by (openers_of openers.now) begun.now line terms.now }
+    ensures { result ≡ judged_by openers.now begun.now line terms.now }
 {
     if !well_filled(line) {
         return Err(Refusal::Unknown);
     }
-    if !nests(openers, line) {
+    if !openers.nests(line) {
         return Err(Refusal::Unpaired);
     }
-    if line.kind == 0 && begun[line.q as usize] {
+    if line.is(Kind::Begin) && begun[usize::from(line.q)] {
         return Err(Refusal::WrongMethod);
     }
-    if !placed(openers.locals, line) {
+    let locals = openers.locals();
+    if !placed(locals, line) {
         return Err(Refusal::Malformed);
     }
-    let named = named_in(terms, openers.locals, line)?;
+    let named = named_in(terms, locals, line)?;
     if apart(named, line) {
         Ok(())
     } else {
@@ -77,7 +72,7 @@ pub(crate) fn judge(
 pub(crate) fn note(begun: &mut [bool; 256], line: Line)
     ensures { begun.new ≡ noted begun.old line }
 {
-    if line.kind == 0 {
-        begun[line.q as usize] = true;
+    if line.is(Kind::Begin) {
+        begun[usize::from(line.q)] = true;
     }
 }

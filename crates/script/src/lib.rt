@@ -5,8 +5,8 @@
 pub mod building;
 pub mod checking;
 mod judging;
-mod nesting;
+mod methods;
 mod openers;
+mod pairs;
 pub mod program;
-mod tables;
 pub mod turning;

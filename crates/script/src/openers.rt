@@ -1,16 +1,83 @@
-ghost use Rattle.std.specs.Prelude.{◌≡◌, ◌≤◌, reverse, length, take};
-ghost use Rattle.rules.specs.Check.{depth as depth_of};
+// The lines that opened a pair that is not closed yet.
 
-use rules::Line;
+ghost use Rattle.std.specs.Prelude.{◌≡◌, suc, ◌<◌, ◌==◌, ◌&&◌, ◌||◌, not, [], length};
+ghost use Rattle.rules.specs.Kinds.{code};
+ghost use Rattle.rules.specs.declared.Kind.TheVariants.{End};
+ghost use Rattle.rules.specs.Check.{nests as does_nest, after, depth};
 
-// The lines that opened a pair that is not closed yet, the last opened last, and how many of them are locals.
+use crate::pairs::{closes, opens};
+use arrayvec::ArrayVec;
+use rules::{Kind, Line};
+use std::marker::Model;
+
 #[derive(Drop)]
 pub(crate) struct Openers {
-    pub(crate) lines: [Line; 256],
-    pub(crate) count: usize,
-    pub(crate) locals: usize,
-    ghost wide: { length lines ≡ 256 },
-    ghost few: { count ≤ 256 },
-    ghost shallow: { locals ≤ count },
-    ghost deep: { locals ≡ depth_of (reverse (take count lines)) },
+    lines: ArrayVec<Line, 256>,
+}
+
+impl Model for Openers {
+    ghost use Rattle.std.specs.Prelude.{List, reverse};
+    ghost use Rattle.rules.specs.declared.Line.{Line};
+
+    ghost Value = { List Line };
+
+    // the last opened first
+    ghost view = { λ o. reverse o.lines.items };
+}
+
+impl Openers {
+    pub(crate) fn new() -> Openers
+        ensures { result ≡ [] }
+    {
+        Openers {
+            lines: ArrayVec::new(),
+        }
+    }
+
+    pub(crate) fn is_empty(&self) -> bool
+        ensures { result ≡ (length self.now == 0) }
+    {
+        self.lines.is_empty()
+    }
+
+    // How many locals are open.
+    pub(crate) fn locals(&self) -> usize
+        ensures { result ≡ depth self.now }
+    {
+        self.lines
+            .as_slice()
+            .iter()
+            .filter(|line| line.is(Kind::Local))
+            .count()
+    }
+
+    // Whether a line may stand here: begin outside a method, every other line inside one, and a closer after its opener.
+    pub(crate) fn nests(&self, line: Line) -> bool
+        ensures { result ≡ does_nest self.now line }
+    {
+        match self.lines.as_slice().last() {
+            None => line.is(Kind::Begin),
+            Some(opener) => !line.is(Kind::Begin) & (!closes(line) | closes_after(*opener, line)),
+        }
+    }
+
+    // The openers after a line.
+    pub(crate) fn pass(&mut self, line: Line)
+        requires { length self.old < 256 }
+        ensures { self.new ≡ after self.old line }
+    {
+        if opens(line) {
+            self.lines.push(line);
+        } else if closes(line) {
+            let _ = self.lines.pop();
+        }
+    }
+}
+
+// Whether a closer closes this opener: its number is the next one, and an end is of the method that was begun.
+fn closes_after(opener: Line, line: Line) -> bool
+    ensures { result ≡ (suc opener.kind == line.kind && (not (line.kind == code End) || opener.q == line.q)) }
+{
+    (u16::from(opener.kind) + 1 == u16::from(line.kind))
+        & (!line.is(Kind::End) | (opener.q == line.q))
 }

@@ -10,7 +10,7 @@ use crate::checking::{Fault, check};
 use rules::{Line, Term};
 
 // Kinds below 14 change their lowest bit.
-pub(crate) fn turned_kind(kind: u8) -> u8
+fn turned_kind(kind: u8) -> u8
     ensures { result ≡ turned_kind kind }
 {
     if kind < 14 { kind ^ 1 } else { kind }
@@ -26,7 +26,7 @@ fn turned_line(line: Line) -> Line
 }
 
 // The lines are exchanged end for end, and each is turned.
-fn turn_lines(lines: &mut [Line])
+pub(crate) fn turn_lines(lines: &mut [Line])
     ensures { lines.new ≡ turned lines.old }
 {
     for line in lines.iter_mut() {
@@ -42,9 +42,7 @@ pub fn turn(lines: &mut [Line], terms: &[Term]) -> Result<(), Fault>
     ensures again { TurnsBack result lines.old lines.new terms.now }
     ensures whole { Whole }
 {
-    let answer = check(lines, terms);
-    if let Ok(()) = answer {
-        turn_lines(lines);
-    }
-    answer
+    check(lines, terms)?;
+    turn_lines(lines);
+    Ok(())
 }

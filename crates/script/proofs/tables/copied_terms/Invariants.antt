@@ -1,5 +1,0 @@
-use Rattle.std.proofs.Common.{◌≡◌, length, take}
-use Rattle.script.proofs.tables.copied_terms.Given as goal
-
-abbrev pub invariant-loop-k : goal.invariant-loop-k
-invariant-loop-k l = (take l.k l.table ≡ take l.k l.terms) × (length l.table ≡ 1024)
