@@ -13,8 +13,8 @@ use store::{Store, sum};
 
 // Adds to word w, modulo 2^32, and gives the sum. A refusal alters nothing.
 pub fn add_to_word<S: Store>(store: &mut S, w: u32, by: i32) -> Result<i32, Refusal>
-    ensures answer { result ≡ add_answer (S.Store.book store.old) w by }
-    ensures after { S.Store.book store.new ≡ added (S.Store.book store.old) w by }
+    ensures answer { result ≡ add_answer (S.book store.old) w by }
+    ensures after { S.book store.new ≡ added (S.book store.old) w by }
 {
     let total = sum(store.read(w)?, by);
     store.write(w, total)?;
@@ -23,8 +23,8 @@ pub fn add_to_word<S: Store>(store: &mut S, w: u32, by: i32) -> Result<i32, Refu
 
 // Copies word w of one store to another. A refusal alters nothing.
 pub fn copy_word<S: Store, T: Store>(from: &S, to: &mut T, w: u32) -> Result<(), Refusal>
-    ensures answer { result ≡ copy_word_answer (S.Store.book from.now) (T.Store.book to.old) w }
-    ensures after { T.Store.book to.new ≡ word_copied (S.Store.book from.now) (T.Store.book to.old) w }
+    ensures answer { result ≡ copy_word_answer (S.book from.now) (T.book to.old) w }
+    ensures after { T.book to.new ≡ word_copied (S.book from.now) (T.book to.old) w }
 {
     let v = from.read(w)?;
     to.write(w, v)
@@ -32,8 +32,8 @@ pub fn copy_word<S: Store, T: Store>(from: &S, to: &mut T, w: u32) -> Result<(),
 
 // Copies a whole book to a store of the same size. A refusal, that one of the two is no book or that the sizes differ, alters nothing.
 pub fn copy_book<S: Store, T: Store>(from: &S, to: &mut T) -> Result<(), Refusal>
-    ensures answer { result ≡ copy_answer (S.Store.book from.now) (T.Store.book to.old) }
-    ensures after { T.Store.book to.new ≡ copied (S.Store.book from.now) (T.Store.book to.old) }
+    ensures answer { result ≡ copy_answer (S.book from.now) (T.book to.old) }
+    ensures after { T.book to.new ≡ copied (S.book from.now) (T.book to.old) }
 {
     let size = from.size();
     if size == 0 || to.size() == 0 {

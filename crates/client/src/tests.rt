@@ -4,7 +4,7 @@ use crate::copy_book;
 use std::alloc::Global;
 use std::process::Abort;
 use std::test::Fail;
-use store::*;
+use store::{Bytes, Moves, Store, Words};
 
 fn holds<S: Store>(rt: &impl Abort, store: &mut S, size: u32) -> Result<(), Fail> {
     if size == 0 {
@@ -16,18 +16,12 @@ fn holds<S: Store>(rt: &impl Abort, store: &mut S, size: u32) -> Result<(), Fail
 
 // What a read gives, with a refusal as its number.
 fn got<S: Store>(store: &S, w: u32) -> Result<i32, u32> {
-    match store.read(w) {
-        Ok(v) => Ok(v),
-        Err(refusal) => Err(refusal.code()),
-    }
+    store.read(w).map_err(|refusal| refusal.code())
 }
 
 // What a write answers, with a refusal as its number.
 fn put<S: Store>(store: &mut S, w: u32, v: i32) -> Result<(), u32> {
-    match store.write(w, v) {
-        Ok(()) => Ok(()),
-        Err(refusal) => Err(refusal.code()),
-    }
+    store.write(w, v).map_err(|refusal| refusal.code())
 }
 
 fn is_no_book<S: Store>(rt: &impl Abort, store: &mut S) -> Result<(), Fail> {
@@ -94,12 +88,9 @@ fn words_in_bytes(rt: HostRuntime) {
         assert_eq!(rt; got(&store, 2), Ok(i32::MAX));
         assert_eq!(rt; got(&store, 3), Ok(0x01020304));
     }
-    assert_eq!(rt; [bytes[4], bytes[5], bytes[6], bytes[7]], [128, 0, 0, 0]);
-    assert_eq!(rt;
-        [bytes[8], bytes[9], bytes[10], bytes[11]],
-        [127, 255, 255, 255]
-    );
-    assert_eq!(rt; [bytes[12], bytes[13], bytes[14], bytes[15]], [1, 2, 3, 4]);
+    assert!(rt; bytes[4..8] == [128, 0, 0, 0]);
+    assert!(rt; bytes[8..12] == [127, 255, 255, 255]);
+    assert!(rt; bytes[12..16] == [1, 2, 3, 4]);
 }
 
 #[test]

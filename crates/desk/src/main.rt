@@ -28,7 +28,7 @@ const REFERENCE: u32 = 65;
 // Prints what a call gave, or why it was refused.
 fn report<T: Display + Drop>(
     rt: &HostRuntime,
-    what: &str,
+    what: impl Display + Drop,
     answer: Result<T, Refusal>,
 ) -> io::Result<()> {
     match answer {
@@ -37,20 +37,12 @@ fn report<T: Display + Drop>(
     }
 }
 
-fn name(instrument: Instrument) -> &'static str {
-    match instrument {
-        Instrument::Bund => "bund",
-        Instrument::Gilt => "gilt",
-        Instrument::Bobl => "bobl",
-    }
-}
-
 // Prints every price that a store shows.
 fn show<S: Store>(rt: &HostRuntime, who: &str, store: &S) -> io::Result<()> {
     println!(rt; "{who}:")?;
     for instrument in Instrument::ALL {
         print!(rt; "  ")?;
-        report(rt, name(instrument), price(store, instrument))?;
+        report(rt, instrument, price(store, instrument))?;
     }
     Ok(())
 }

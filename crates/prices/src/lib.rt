@@ -2,12 +2,13 @@
 
 #![tactic(auto)]
 
-ghost use Rattle.std.specs.Prelude.{◌≡◌, slice_set};
+ghost use Rattle.std.specs.Prelude.{◌≡◌, Some, slice_set};
 ghost use Rattle.rules.specs.Book.{read_of, write_of};
 ghost use Rattle.store.specs.Layout.{moves_after};
-ghost use Rattle.prices.specs.Prices.{mark, move_to};
+ghost use Rattle.prices.specs.Prices.{mark, move_to, name};
 
 use rules::Refusal;
+use std::fmt;
 use store::{Moves, Store};
 
 #[derive(Clone, Copy)]
@@ -32,16 +33,28 @@ impl Instrument {
     }
 }
 
+impl fmt::Display for Instrument {
+    ghost output = { λ instrument. Some (name instrument) };
+
+    fn fmt<W: fmt::Write>(&self, f: &mut fmt::Formatter<W>) -> fmt::Result {
+        f.write_str(match self {
+            Instrument::Bund => "bund",
+            Instrument::Gilt => "gilt",
+            Instrument::Bobl => "bobl",
+        })
+    }
+}
+
 pub fn price<S: Store>(store: &S, instrument: Instrument) -> Result<i32, Refusal>
-    ensures { result ≡ read_of (S.Store.book store.now) (mark instrument) }
+    ensures { result ≡ read_of (S.book store.now) (mark instrument) }
 {
     store.read(instrument.mark())
 }
 
 // Writes a price into a store, and alters nothing else.
 pub fn post<S: Store>(store: &mut S, instrument: Instrument, ticks: i32) -> Result<(), Refusal>
-    ensures answer { result ≡ write_of (S.Store.book store.old) (mark instrument) }
-    ensures after { S.Store.book store.new ≡ slice_set (S.Store.book store.old) (mark instrument) ticks }
+    ensures answer { result ≡ write_of (S.book store.old) (mark instrument) }
+    ensures after { S.book store.new ≡ slice_set (S.book store.old) (mark instrument) ticks }
 {
     store.write(instrument.mark(), ticks)
 }
@@ -52,8 +65,8 @@ pub fn move_to<S: Store>(
     instrument: Instrument,
     ticks: i32,
 ) -> Result<i32, Refusal>
-    ensures answer { result ≡ move_to (S.Store.book layer.old.below) instrument ticks }
-    ensures moves { layer.new.moves ≡ moves_after layer.old.moves (S.Store.book layer.old.below) (mark instrument) ticks }
+    ensures answer { result ≡ move_to (S.book layer.old.below) instrument ticks }
+    ensures moves { layer.new.moves ≡ moves_after layer.old.moves (S.book layer.old.below) (mark instrument) ticks }
     ensures kept { layer.new.below ≡ layer.old.below }
 {
     let w = instrument.mark();

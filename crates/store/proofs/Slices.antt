@@ -1,14 +1,19 @@
 -- Books in slices of words and of bytes.
-use Rattle.std.proofs.Common.{◌≡◌, ℕ, ◌+◌, ◌*◌, ◌/◌, ◌%◌, ◌^◌, ◌<◌, ◌≢◌, ◌⊎◌, List, length, get_or, set, ℤ, pos, negsuc, sym, ap, ◌∙◌, subst, inl, inr, ⊎_elim, arith, w32, to_z, of_z}
-use native.Mathlib.Nat.{div-div-eq-div-mul}
-use Rattle.std.specs.Int.{int_wrap}
+use Rattle.std.proofs.Common.{◌≡◌, ℕ, zero, suc, ◌+◌, ◌*◌, ◌/◌, ◌%◌, ◌^◌, ◌<◌, ◌≤◌, ◌≢◌, List, [], length, get_or, take, drop, set, ℤ, pos, refl, sym, ap, ◌∙◌, subst, ⊎_elim, arith, Fits, w8, w32, to_z, of_z}
+use native.Mathlib.Nat.{add-zero}
+use borrow.Rule.Slice.PartMut.{put_mid}
+use Rattle.std.specs.Int.{int_wrap, from_be_bytes, to_be_bytes}
+use Rattle.std.specs.Simd.{first_chunks}
 use Rattle.std.proofs.lemmas.Int.{to_z-of_z, int_wrap_fits}
-use Rattle.std.proofs.lemmas.List.{length-set, get_or-set_same, get_or-set_other}
+use Rattle.std.proofs.Math.Facts.{Fits-of_z}
+use Rattle.std.proofs.lemmas.Nat.{from_be_bytes-to_be_bytes_4}
+use Rattle.std.proofs.lemmas.List.{length-set, get_or-set_same, get_or-set_other, get_or-take, get_or-drop, drop-drop, drop-take, take_at, drop_at, length-append, length-take, length-drop, length-take-le}
+use Rattle.std.proofs.lemmas.Slice.{take-put_mid_below, drop-put_mid}
 use Rattle.std.proofs.lemmas.Bool.{cases_order}
 use Rattle.std.proofs.lemmas.Bool.Decides.{nat_tests}
 use Rattle.rules.specs.Word.{word}
-use Rattle.store.specs.Layout.{tab, held, held_in_bytes, words_book, bytes_book, byte_word, put4, with_word}
-use Rattle.store.specs.Held.{Word}
+use Rattle.store.specs.Layout.{tab, held, held_in_bytes, words_book, bytes_book, byte_word}
+use Rattle.store.specs.Held.{Word, length_tab, get_or_tab}
 use Rattle.store.proofs.Tabs.{tab_set}
 
 -- a word is what its bits say
@@ -19,98 +24,92 @@ pub word_bits : (n : ℕ) → n < 2 ^ 32 → to_z w32 n ≡ word (pos n)
 unfolding int_wrap
 word_bits n h = let e : n ≡ n % 2 ^ 32 = omega arith in ap (to_z w32) e
 
--- a word put where it was found, written by the code's own place and value, is the word w made v
-pub put_as : {X : Type 0} (book : X → List ℤ) (put : X → ℕ → ℤ → X) (before after : X) (k w : ℕ) (v : ℤ) → Word v → after ≡ put before k (to_z w32 (of_z w32 v)) → k ≡ w → book (put before w v) ≡ set (book before) w v → book after ≡ set (book before) w v
-put_as book put before after k w v f e q s =
-    ap book e ∙ ap (λ i. book (put before i (to_z w32 (of_z w32 v)))) q ∙ ap (λ x. book (put before w x)) (to_z-of_z w32 v f) ∙ s
-
 -- ---- words
 
-pub words_set : (xs : List ℤ) (w : ℕ) (v : ℤ) → Word v → w < held (length xs) → words_book (set xs w v) ≡ set (words_book xs) w v
+pub words_room : (xs : List ℤ) (i : ℕ) → i < length (words_book xs) → i < length xs
+words_room xs i h =
+    let k : i < held (length xs) = subst (λ n. i < n) (length_tab _ _) h in
+    grind (arith, nat_tests)
+
+pub words_at : (xs : List ℤ) (i : ℕ) → i < length (words_book xs) → word (get_or xs i (pos 0)) ≡ get_or (words_book xs) i (pos 0)
+words_at xs i h = sym (get_or_tab _ _ i (pos 0) (subst (λ n. i < n) (length_tab _ _) h))
+
+pub words_set : (xs : List ℤ) (w : ℕ) (v : ℤ) → Word v → w < length (words_book xs) → words_book (set xs w v) ≡ set (words_book xs) w v
 words_set xs w v f h =
-    let wl : w < length xs = grind (arith, nat_tests) in
     let P : ℕ → Type 0 = λ n. tab (λ i. word (get_or (set xs w v) i (pos 0))) (held n) ≡ set (words_book xs) w v in
     subst P (sym (length-set xs w v))
     (tab_set _ _ (held (length xs)) w v
     (λ i _ ne. ap word (get_or-set_other xs w i v (pos 0) ne))
-    (λ _. ap word (get_or-set_same xs w v (pos 0) wl) ∙ int_wrap_fits w32 v f))
+    (λ _. ap word (get_or-set_same xs w v (pos 0) (words_room xs w h)) ∙ int_wrap_fits w32 v f))
 
 -- ---- bytes
 
-put4_other : (bs : List ℕ) (k a b c d j : ℕ) → ((j < k) ⊎ (k + 3 < j)) → get_or (put4 bs k a b c d) j 0 ≡ get_or bs j 0
-put4_other bs k a b c d j h =
-    let n3 : j ≢ k + 3 = ⊎_elim (λ p. omega arith) (λ p. omega arith) h in
-    let n2 : j ≢ k + 2 = ⊎_elim (λ p. omega arith) (λ p. omega arith) h in
-    let n1 : j ≢ k + 1 = ⊎_elim (λ p. omega arith) (λ p. omega arith) h in
-    let n0 : j ≢ k = ⊎_elim (λ p. omega arith) (λ p. omega arith) h in
-    simp get_or-set_other
+-- the four bytes of word i
+abbrev four : List ℕ → ℕ → List ℕ
+four bs i = take 4 (drop (4 * i) bs)
 
-put4_at : (bs : List ℕ) (k a b c d : ℕ) → k + 3 < length bs → (get_or (put4 bs k a b c d) k 0 ≡ a) × (get_or (put4 bs k a b c d) (k + 1) 0 ≡ b) × (get_or (put4 bs k a b c d) (k + 2) 0 ≡ c) × (get_or (put4 bs k a b c d) (k + 3) 0 ≡ d)
-put4_at bs k a b c d h =
-    let s1 = set bs k a in
-    let s2 = set s1 (k + 1) b in
-    let s3 = set s2 (k + 2) c in
-    let l1 : length s1 ≡ length bs = length-set bs k a in
-    let l2 : length s2 ≡ length bs = length-set s1 (k + 1) b ∙ l1 in
-    let l3 : length s3 ≡ length bs = length-set s2 (k + 2) c ∙ l2 in (
-      get_or-set_other s3 (k + 3) k d 0 (omega arith) ∙ get_or-set_other s2 (k + 2) k c 0 (omega arith) ∙ get_or-set_other s1 (k + 1) k b 0 (omega arith) ∙ get_or-set_same bs k a 0 (omega arith),
-      get_or-set_other s3 (k + 3) (k + 1) d 0 (omega arith) ∙ get_or-set_other s2 (k + 2) (k + 1) c 0 (omega arith) ∙ get_or-set_same s1 (k + 1) b 0 (omega arith),
-      get_or-set_other s3 (k + 3) (k + 2) d 0 (omega arith) ∙ get_or-set_same s2 (k + 2) c 0 (omega arith),
-      get_or-set_same s3 (k + 3) d 0 (omega arith),
-    )
+abbrev joined : List ℕ → ℤ
+joined bs = word (pos (from_be_bytes w32 bs))
 
-length_put4 : (bs : List ℕ) (k a b c d : ℕ) → length (put4 bs k a b c d) ≡ length bs
-length_put4 bs k a b c d = simp length-set
+four_at : (bs : List ℕ) (i j : ℕ) → j < 4 → get_or (four bs i) j 0 ≡ get_or bs (4 * i + j) 0
+four_at bs i j h = get_or-take 4 (drop (4 * i) bs) j 0 h ∙ get_or-drop (4 * i) bs j 0
 
--- the word of four digits in base 256
-abbrev joined4 : ℕ → ℕ → ℕ → ℕ → ℤ
-joined4 a b c d = word (pos (a * 16777216 + b * 65536 + c * 256 + d))
+word_joined : (bs : List ℕ) (i : ℕ) → joined (four bs i) ≡ byte_word bs i
+word_joined bs i =
+    let a : get_or (four bs i) 0 0 ≡ get_or bs (4 * i) 0 = four_at bs i 0 (omega arith) ∙ ap (λ k. get_or bs k 0) (add-zero (4 * i)) in
+    let b = four_at bs i 1 (omega arith) in
+    let c = four_at bs i 2 (omega arith) in
+    let d = four_at bs i 3 (omega arith) in
+    cc
+
+pub bytes_room : (bs : List ℕ) (i : ℕ) → i < length (bytes_book bs) → (i < length bs / 4) × (4 * i + 4 ≤ length bs)
+bytes_room bs i h =
+    let k : i < held_in_bytes (length bs) = subst (λ n. i < n) (length_tab _ _) h in
+    let r : i < length bs / 4 = grind (arith, nat_tests) in
+    (r, omega arith)
+
+chunk_at : (k i : ℕ) (bs : List ℕ) → i < k → get_or (first_chunks 4 k bs) i [] ≡ four bs i
+chunk_at zero i bs h = absurd (omega arith)
+chunk_at (suc k) zero bs h = refl
+chunk_at (suc k) (suc i) bs h =
+    let e : 4 + 4 * i ≡ 4 * suc i = omega arith in
+    chunk_at k i (drop 4 bs) (omega arith) ∙ ap (take 4) (drop-drop (4 * i) 4 bs ∙ ap (λ k. drop k bs) e)
+
+-- the word that is read
+pub bytes_at : (bs : List ℕ) (ws : List (List ℕ)) (i : ℕ) → ((j : ℕ) → Fits w8 (get_or bs j 0)) → ws ≡ first_chunks 4 (length bs / 4) bs → i < length (bytes_book bs) → to_z w32 (from_be_bytes w32 (get_or ws i [])) ≡ get_or (bytes_book bs) i (pos 0)
+bytes_at bs ws i f e h =
+    let k : get_or ws i [] ≡ four bs i = ap (λ l. get_or l i []) e ∙ chunk_at _ i bs (bytes_room bs i h).0 in
+    let byte : (j : ℕ) → j < 4 → get_or (four bs i) j 0 < 256 = λ j l. rw (four_at bs i j l) (f (4 * i + j)).fits in
+    let b : from_be_bytes w32 (four bs i) < 2 ^ 32 = omega (arith, byte 0 (omega arith), byte 1 (omega arith), byte 2 (omega arith), byte 3 (omega arith)) in
+    ap (λ l. to_z w32 (from_be_bytes w32 l)) k ∙ word_bits _ b ∙ word_joined bs i ∙ sym (get_or_tab _ _ i (pos 0) (subst (λ n. i < n) (length_tab _ _) h))
 
 of_z_below : (v : ℤ) → Word v → of_z w32 v < 2 ^ 32
-of_z_below (pos n) f = omega (arith, f.sfits)
-of_z_below (negsuc n) f = omega arith
+of_z_below v f = (Fits-of_z f).fits
 
--- the digits of a word make that word
-joined4_own : (v : ℤ) → Word v → joined4 (of_z w32 v / 16777216 % 256) (of_z w32 v / 65536 % 256) (of_z w32 v / 256 % 256) (of_z w32 v % 256) ≡ v
-joined4_own v f =
-    let x = of_z w32 v in
-    let xb : x < 2 ^ 32 = of_z_below v f in
-    let q1 = x / 256 in
-    let q2 = x / 65536 in
-    let q3 = x / 16777216 in
-    let e2 : q2 ≡ q1 / 256 = sym (div-div-eq-div-mul x 256 256) in
-    let e3 : q3 ≡ q2 / 256 = sym (div-div-eq-div-mul x 65536 256) in
-    let d1 : q1 ≡ 256 * q2 + q1 % 256 = omega arith in
-    let d2 : q2 ≡ 256 * q3 + q2 % 256 = omega arith in
-    let d3 : q3 % 256 ≡ q3 = omega arith in
-    let e : x / 16777216 % 256 * 16777216 + x / 65536 % 256 * 65536 + x / 256 % 256 * 256 + x % 256 ≡ x = omega arith in
-    ap (λ n. word (pos n)) e ∙ sym (word_bits x xb) ∙ to_z-of_z w32 v f
+-- four bytes are written over those of word w: no other word's are altered
+four_kept : (bs ys : List ℕ) (w i : ℕ) → length ys ≡ 4 → 4 * w ≤ length bs → i ≢ w → four (put_mid (4 * w) 4 bs ys) i ≡ four bs i
+four_kept bs ys w i many room ne =
+    let bs' = put_mid (4 * w) 4 bs ys in
+    ⊎_elim
+    (λ e. absurd (ne e))
+    (λ side. ⊎_elim
+    (λ l. sym (drop-take (4 * i) 4 bs') ∙ ap (drop (4 * i)) (take-put_mid_below (4 * w) 4 bs ys (4 * i + 4) (omega arith) room) ∙ drop-take (4 * i) 4 bs)
+    (λ l. ap (take 4) (drop-put_mid (4 * w) 4 bs ys (4 * i) (omega arith) room many))
+    side)
+    (cases_order i w)
 
-joined4_same : (a b c d a' b' c' d' : ℕ) → a ≡ a' → b ≡ b' → c ≡ c' → d ≡ d' → joined4 a b c d ≡ joined4 a' b' c' d'
-joined4_same a b c d a' b' c' d' p q r s = cc
-
-apart : (i w : ℕ) → i ≢ w → (i < w) ⊎ (w < i)
-apart i w ne = ⊎_elim (λ e. absurd (ne e)) (λ h. h) (cases_order i w)
-
-pub room : (n w : ℕ) → w < held_in_bytes n → 4 * w + 3 < n
-room n w h = grind (arith, nat_tests)
-
-pub bytes_set : (bs : List ℕ) (w : ℕ) (v : ℤ) → Word v → w < held_in_bytes (length bs) → bytes_book (with_word bs w v) ≡ set (bytes_book bs) w v
-bytes_set bs w v f h =
-    let a = of_z w32 v / 16777216 % 256 in
-    let b = of_z w32 v / 65536 % 256 in
-    let c = of_z w32 v / 256 % 256 in
-    let d = of_z w32 v % 256 in
-    let bs' = put4 bs (4 * w) a b c d in
+pub bytes_set : (bs ys : List ℕ) (w : ℕ) (v : ℤ) → Word v → w < length (bytes_book bs) → ys ≡ to_be_bytes w32 (of_z w32 v) → bytes_book (put_mid (4 * w) 4 bs ys) ≡ set (bytes_book bs) w v
+bytes_set bs ys w v f h e =
+    let room : 4 * w + 4 ≤ length bs = (bytes_room bs w h).1 in
+    let many : length ys ≡ 4 = ap length e in
+    let bs' = put_mid (4 * w) 4 bs ys in
     let P : ℕ → Type 0 = λ n. tab (byte_word bs') (held_in_bytes n) ≡ set (bytes_book bs) w v in
-    let at = put4_at bs (4 * w) a b c d (room (length bs) w h) in
-    subst P (sym (length_put4 bs (4 * w) a b c d))
+    let long : length bs' ≡ length bs = simp (length-append, length-take, length-drop) (omega arith) in
+    let front : length (take (4 * w) bs) ≡ 4 * w = length-take-le (4 * w) bs (omega arith) in
+    let here : four bs' w ≡ ys = ap (take 4) (drop_at (take (4 * w) bs) _ (4 * w) front) ∙ take_at ys _ 4 many in
+    subst P (sym long)
     (tab_set (byte_word bs) (byte_word bs') (held_in_bytes (length bs)) w v
     (λ i _ ne.
-    let side : (i < w) ⊎ (w < i) = apart i w ne in
-    joined4_same _ _ _ _ _ _ _ _
-    (put4_other bs (4 * w) a b c d (4 * i) (⊎_elim (λ p. inl (omega arith)) (λ p. inr (omega arith)) side))
-    (put4_other bs (4 * w) a b c d (4 * i + 1) (⊎_elim (λ p. inl (omega arith)) (λ p. inr (omega arith)) side))
-    (put4_other bs (4 * w) a b c d (4 * i + 2) (⊎_elim (λ p. inl (omega arith)) (λ p. inr (omega arith)) side))
-    (put4_other bs (4 * w) a b c d (4 * i + 3) (⊎_elim (λ p. inl (omega arith)) (λ p. inr (omega arith)) side)))
-    (λ _. joined4_same _ _ _ _ _ _ _ _ at.0 at.1 at.2 at.3 ∙ joined4_own v f))
+    let same : four bs' i ≡ four bs i = four_kept bs ys w i many (omega arith) ne in
+    sym (word_joined bs' i) ∙ ap joined same ∙ word_joined bs i)
+    (λ _. sym (word_joined bs' w) ∙ ap joined (here ∙ e) ∙ ap (λ n. word (pos n)) (from_be_bytes-to_be_bytes_4 _ (of_z_below v f)) ∙ sym (word_bits _ (of_z_below v f)) ∙ to_z-of_z w32 v f))

@@ -12,10 +12,6 @@ use Rattle.store.specs.Held.{length_tab, get_or_tab}
 pub refused_alike : {A B : Type 0} (n w : ℕ) (x : A) (y : B) (e : Refusal) → Err e ≡ reached_in n w x → reached_in n w y ≡ Err e
 refused_alike n w x y e h = grind (arith, nat_tests)
 
--- it is none of the n words
-pub refused_past : {A : Type 0} (n w : ℕ) (x : A) (e : Refusal) → Err e ≡ reached_in n w x → n ≤ w
-refused_past n w x e h = grind (arith, nat_tests)
-
 pub reached_in_lem : {A : Type 0} (n w : ℕ) (x : A) → w < n → reached_in n w x ≡ Ok x
 reached_in_lem n w x h = grind (arith, nat_tests)
 
@@ -52,6 +48,3 @@ tab_set f g n w v other here =
 
 pub tab_past : (f : ℕ → ℤ) (n w : ℕ) (v : ℤ) → n ≤ w → tab f n ≡ set (tab f n) w v
 tab_past f n w v h = sym (set_past (tab f n) w v (omega (arith, length_tab f n)))
-
-pub tab_in : {A : Type 0} (f : ℕ → ℤ) (n w : ℕ) (x : A) → w < n → reached (tab f n) w x ≡ Ok x
-tab_in f n w x h = reached_tab f n w x ∙ reached_in_lem n w x h

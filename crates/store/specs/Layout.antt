@@ -1,7 +1,5 @@
 -- The book that each kind of store holds, as a table of its words.
-use Rattle.std.specs.Prelude.{ℕ, ◌+◌, ◌-◌, ◌*◌, ◌/◌, ◌%◌, Bool, cond, ◌&&◌, List, [], ◌∷◌, map, length, set, ℤ, pos, ◌+ℤ◌, ◌-ℤ◌, Ok, Err, Result, ◌==◌, nat_le, nat_lt, slice_index, slice_index_or, slice_set}
-use Rattle.std.specs.Int.{w32}
-use Rattle.std.proofs.Common.{of_z}
+use Rattle.std.specs.Prelude.{ℕ, ◌+◌, ◌-◌, ◌*◌, ◌/◌, ◌%◌, Bool, cond, ◌&&◌, List, map, length, set, ℤ, pos, ◌+ℤ◌, ◌-ℤ◌, Ok, Err, Result, ◌==◌, nat_le, nat_lt, slice_index, slice_index_or, slice_set}
 use Rattle.std.specs.List.{range_with_len}
 use Rattle.rules.specs.declared.Refusal.{Refusal}
 use Rattle.rules.specs.declared.Refusal.TheVariants.{NoBook, NoSuchWord}
@@ -35,20 +33,8 @@ held_in_bytes n = cond (n % 4 == 0) (held (n / 4)) 0
 abbrev pub byte_word : List ℕ → ℕ → ℤ
 byte_word bs i = word (pos (slice_index bs (4 * i) * 16777216 + slice_index bs (4 * i + 1) * 65536 + slice_index bs (4 * i + 2) * 256 + slice_index bs (4 * i + 3)))
 
--- the four bytes of word i
-abbrev pub four_at : List ℕ → ℕ → List ℕ
-four_at bs i = slice_index bs (4 * i) ∷ slice_index bs (4 * i + 1) ∷ slice_index bs (4 * i + 2) ∷ slice_index bs (4 * i + 3) ∷ []
-
 abbrev pub bytes_book : List ℕ → List ℤ
 bytes_book bs = tab (byte_word bs) (held_in_bytes (length bs))
-
--- the four bytes from k on replaced
-abbrev pub put4 : List ℕ → ℕ → ℕ → ℕ → ℕ → ℕ → List ℕ
-put4 bs k a b c d = slice_set (slice_set (slice_set (slice_set bs k a) (k + 1) b) (k + 2) c) (k + 3) d
-
--- the bytes after word i is made v
-abbrev pub with_word : List ℕ → ℕ → ℤ → List ℕ
-with_word bs i v = put4 bs (4 * i) (of_z w32 v / 16777216 % 256) (of_z w32 v / 65536 % 256) (of_z w32 v / 256 % 256) (of_z w32 v % 256)
 
 -- ---- moves over a book
 

@@ -1,5 +1,7 @@
 // Sums and differences of words, modulo 2^32.
 
+#![tactic(auto, using(std::proofs::lemmas::Int::wraps))]
+
 ghost use Rattle.std.specs.Prelude.{◌≡◌, ◌+ℤ◌, ◌-ℤ◌};
 ghost use Rattle.rules.specs.Word.{word};
 

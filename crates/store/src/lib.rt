@@ -7,16 +7,15 @@ ghost use Rattle.std.specs.Prelude.{◌≡◌, ◌≤◌, List, length, ℤ, sli
 ghost use Rattle.rules.specs.Book.{Held, read_of, write_of};
 
 mod arithmetic;
-mod bytes;
+mod cells;
 mod moves;
 mod reach;
-mod words;
+mod slice;
 
 pub use arithmetic::sum;
-pub use bytes::Bytes;
 pub use moves::Moves;
 use rules::Refusal;
-pub use words::Words;
+pub use slice::{Bytes, Words};
 
 pub trait Store {
     // The book that is held; the empty list is no book.

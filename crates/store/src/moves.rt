@@ -23,11 +23,11 @@ impl<S: Store> Moves<S> {
     pub fn over(below: S) -> Moves<S>
         ensures below { result.below ≡ below }
         ensures moves { result.moves ≡ replicate 64 (pos 0) }
-        ensures same { moved result.moves (S.Store.book result.below) ≡ S.Store.book below }
+        ensures same { moved result.moves (S.book result.below) ≡ S.book below }
     {
         Moves {
             below,
-            moves: no_moves(),
+            moves: [0; MARKS],
         }
     }
 
@@ -53,18 +53,11 @@ impl<S: Store> Moves<S> {
         if is_mark(w) { self.moves[slot(w)] } else { 0 }
     }
 
-    // How many words the book below has.
-    fn count(&self) -> u32
-        ensures { result ≡ length (S.Store.book self.now.below) }
-    {
-        self.below.size()
-    }
-
     // Moves mark w such that v is shown, and leaves the store below alone.
     fn write_mark(&mut self, w: u32, v: i32) -> Result<(), Refusal>
         requires { is_mark w ≡ true }
-        ensures answer { result ≡ write_of (S.Store.book self.old.below) w }
-        ensures moves { self.new.moves ≡ mark_moved self.old.moves (S.Store.book self.old.below) w v }
+        ensures answer { result ≡ write_of (S.book self.old.below) w }
+        ensures moves { self.new.moves ≡ mark_moved self.old.moves (S.book self.old.below) w v }
         ensures kept { self.new.below ≡ self.old.below }
     {
         let x = self.below.read(w)?;
@@ -73,13 +66,14 @@ impl<S: Store> Moves<S> {
     }
 }
 
+#[tactic(auto, using(crate::specs::Held::length_tab))]
 impl<S: Store> Store for Moves<S> {
-    ghost book = { λ s. moved s.moves (S.Store.book s.below) };
+    ghost book = { λ s. moved s.moves (S.book s.below) };
 
-    ghost meant = { λ s. moved_held s.moves (S.Store.book s.below) (S.Store.meant s.below) };
+    ghost meant = { λ s. moved_held s.moves (S.book s.below) (S.meant s.below) };
 
     fn size(&self) -> u32 {
-        self.count()
+        self.below.size()
     }
 
     fn read(&self, w: u32) -> Result<i32, Refusal> {
@@ -90,13 +84,13 @@ impl<S: Store> Store for Moves<S> {
     // Writing a mark alters its move alone, to what v is above the word below, and the store below stays that very store.
     // Any other word is written below.
     fn write(&mut self, w: u32, v: i32) -> Result<(), Refusal>
-        ensures answer { result ≡ write_of (moved self.old.moves (S.Store.book self.old.below)) w }
-        ensures after { moved self.new.moves (S.Store.book self.new.below) ≡ slice_set (moved self.old.moves (S.Store.book self.old.below)) w v }
-        ensures refused { length (moved self.old.moves (S.Store.book self.old.below)) ≤ w → self.new ≡ self.old }
-        ensures moves { self.new.moves ≡ moves_after self.old.moves (S.Store.book self.old.below) w v }
-        ensures below { S.Store.book self.new.below ≡ below_after (S.Store.book self.old.below) w v }
+        ensures answer { result ≡ write_of (moved self.old.moves (S.book self.old.below)) w }
+        ensures after { moved self.new.moves (S.book self.new.below) ≡ slice_set (moved self.old.moves (S.book self.old.below)) w v }
+        ensures refused { length (moved self.old.moves (S.book self.old.below)) ≤ w → self.new ≡ self.old }
+        ensures moves { self.new.moves ≡ moves_after self.old.moves (S.book self.old.below) w v }
+        ensures below { S.book self.new.below ≡ below_after (S.book self.old.below) w v }
         ensures kept { is_mark w ≡ true → self.new.below ≡ self.old.below }
-        ensures by { is_mark w ≡ true → w < length (S.Store.book self.old.below) → move_of self.new.moves w ≡ word (v -ℤ slice_index_or (S.Store.book self.old.below) w (pos 0)) }
+        ensures by { is_mark w ≡ true → w < length (S.book self.old.below) → move_of self.new.moves w ≡ word (v -ℤ slice_index_or (S.book self.old.below) w (pos 0)) }
     {
         if is_mark(w) {
             self.write_mark(w, v)
@@ -110,7 +104,7 @@ impl<S: Store> Store for Moves<S> {
 fn is_mark(w: u32) -> bool
     ensures { result ≡ is_mark w }
 {
-    w >= 1 && w <= 64
+    (1..=64).contains(&w)
 }
 
 // Where the move of mark w is kept.
@@ -119,10 +113,4 @@ fn slot(w: u32) -> usize
     ensures { result ≡ w - 1 }
 {
     w as usize - 1
-}
-
-fn no_moves() -> [i32; MARKS]
-    ensures { result ≡ replicate 64 (pos 0) }
-{
-    [0; MARKS]
 }

@@ -16,7 +16,7 @@ const RECORD: usize = 8;
 pub fn held_words(n: usize) -> usize
     ensures { result ≡ held n }
 {
-    if n >= LEAST && n <= MOST && (n - LEAST) % RECORD == 0 {
+    if (LEAST..=MOST).contains(&n) && (n - LEAST) % RECORD == 0 {
         n
     } else {
         0

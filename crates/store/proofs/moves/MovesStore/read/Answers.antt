@@ -1,17 +1,11 @@
 use Rattle.std.proofs.Common.{◌≡◌, length, get_or, pos, ◌+ℤ◌, Ok, sym, ap, ◌∙◌, w32, rules}
-use Rattle.std.proofs.lemmas.Result.{err_from_is_err_and}
 use Rattle.std.proofs.lemmas.Int.{to_z-of_z}
 use Rattle.rules.specs.Word.{word}
 use Rattle.store.specs.Layout.{move_of, seen}
 use Rattle.store.specs.Held.{Word}
-use Rattle.store.proofs.Tabs.{refused_tab, given_in, read_tab}
+use Rattle.store.proofs.Tabs.{given_in, read_tab}
 use Rattle.store.proofs.Layers.{seen_sum}
 use Rattle.store.proofs.moves.MovesStore.read.Goals as goal
-
-pub returns-in_err-x : goal.returns-in_err-x
-returns-in_err-x g c =
-    let p = err_from_is_err_and c.from_residual.result c.from_residual.ensures.1 in
-    refused_tab _ _ _ _ _ _ _ _ c.in_err-x.ensures p.1 p.2
 
 pub returns : goal.returns
 returns g c =
