@@ -9,7 +9,6 @@ mod whatif;
 
 use client::{add_to_word, copy_book};
 use prices::{Instrument, move_to, post, price};
-use refusals::Told;
 use rules::Refusal;
 use std::fmt::Display;
 use std::io;
@@ -33,7 +32,10 @@ fn report<T: Display + Drop>(
 ) -> io::Result<()> {
     match answer {
         Ok(value) => println!(rt; "{what}: {value}"),
-        Err(refusal) => println!(rt; "{what}: {}", Told(refusal)),
+        Err(refusal) => {
+            let number = u32::from(refusal);
+            println!(rt; "{what}: refused with {number}, {refusal}")
+        }
     }
 }
 

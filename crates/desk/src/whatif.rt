@@ -1,6 +1,6 @@
 // The what-if: a script on the desk's prices, and off again.
 
-use crate::refusals::meaning;
+use crate::refusals::Told;
 use crate::scripts::{doubled, endless, lift, terms};
 use client::copy_book;
 use rules::{Line, Term};
@@ -41,7 +41,7 @@ fn tell(rt: &HostRuntime, what: &str, answer: (u32, u32, u32)) -> io::Result<()>
     if refusal == 0 {
         println!(rt; "{what}: done in {steps} steps ({refusal}, {line}, {steps})")
     } else {
-        let words = meaning(refusal);
+        let words = Told(refusal);
         println!(rt;
             "{what}: refused, {words}, at line {line} after {steps} steps ({refusal}, {line}, {steps})"
         )
@@ -53,10 +53,10 @@ fn tell_verdict(rt: &HostRuntime, what: &str, answer: Result<(), Fault>) -> io::
     match answer {
         Ok(()) => println!(rt; "{what}: accepted"),
         Err(fault) => {
-            let refusal = fault.refusal.code();
+            let number = u32::from(fault.refusal);
             let line = fault.line;
-            let words = meaning(refusal);
-            println!(rt; "{what}: refused with {refusal} at line {line}, {words}")
+            let words = fault.refusal;
+            println!(rt; "{what}: refused with {number} at line {line}, {words}")
         }
     }
 }
@@ -66,7 +66,7 @@ fn look<S: Store>(rt: &HostRuntime, screen: &Screen<S>, name: &str, w: u32) -> i
     if refusal == 0 {
         println!(rt; "  {name}: {word}")
     } else {
-        let words = meaning(refusal);
+        let words = Told(refusal);
         println!(rt; "  {name}: refused with {refusal}, {words}")
     }
 }

@@ -64,10 +64,10 @@ fn named(name: &str, text: &mut Text<'_>) -> Result<Command, &'static str> {
         "session" => session(text),
         "line" => line_of(text),
         "term" => term_of(text),
-        "read" => Ok(Command::Read(text.large()?)),
-        "write" => Ok(Command::Write(text.large()?, text.signed()?)),
-        "look" => Ok(Command::Look(text.large()?)),
-        "apply" => Ok(Command::Apply(text.large()?, text.large()?)),
+        "read" => Ok(Command::Read(text.number()?)),
+        "write" => Ok(Command::Write(text.number()?, text.number()?)),
+        "look" => Ok(Command::Look(text.number()?)),
+        "apply" => Ok(Command::Apply(text.number()?, text.number()?)),
         _ => plain(name),
     }
 }
@@ -93,18 +93,14 @@ fn plain(name: &str) -> Result<Command, &'static str> {
 
 fn session(text: &mut Text<'_>) -> Result<Command, &'static str> {
     match text.next() {
-        None => Err("a name"),
-        Some("") => Err("a name"),
+        None | Some("") => Err("a name"),
         Some(_) => Ok(Command::Session),
     }
 }
 
 fn store(text: &mut Text<'_>) -> Result<Command, &'static str> {
-    let shape = match text.next() {
-        None => Err("a shape"),
-        Some(word) => shape_of(word),
-    };
-    Ok(Command::Store(shape?, text.large()?))
+    let shape = shape_of(text.next().ok_or("a shape")?)?;
+    Ok(Command::Store(shape, text.number()?))
 }
 
 fn shape_of(word: &str) -> Result<Shape, &'static str> {
@@ -121,31 +117,21 @@ fn shape_of(word: &str) -> Result<Shape, &'static str> {
 }
 
 fn line_of(text: &mut Text<'_>) -> Result<Command, &'static str> {
-    let kind = text.small()?;
-    let x = text.place()?;
-    let y = text.place()?;
-    let q = text.small()?;
-    let first = text.medium()?;
-    let count = u16::from(text.small()?);
     Ok(Command::Line(Line {
-        kind,
-        x,
-        y,
-        q,
-        first,
-        count,
+        kind: text.number()?,
+        x: text.place()?,
+        y: text.place()?,
+        q: text.number()?,
+        first: text.number()?,
+        count: u16::from(text.number::<u8>()?),
     }))
 }
 
 fn term_of(text: &mut Text<'_>) -> Result<Command, &'static str> {
-    let kind = text.small()?;
-    let number = text.signed()?;
-    let first = text.place()?;
-    let second = text.place()?;
     Ok(Command::Term(Term {
-        kind,
-        number,
-        first,
-        second,
+        kind: text.number()?,
+        number: text.number()?,
+        first: text.place()?,
+        second: text.place()?,
     }))
 }

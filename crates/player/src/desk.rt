@@ -47,10 +47,7 @@ impl<R: BufRead, W: Write> Desk<R, W> {
 
     // The present line.
     pub(crate) fn text(&self) -> Result<&str, Stop> {
-        match std::str::from_utf8(self.line.as_slice()) {
-            Ok(text) => Ok(text),
-            Err(_) => Err(self.stop("text")),
-        }
+        std::str::from_utf8(self.line.as_slice()).map_err(|_| self.stop("text"))
     }
 
     // Writes the present line.
@@ -75,10 +72,7 @@ impl<R: BufRead, W: Write> Desk<R, W> {
 
     // Whether the present line is blank or a comment.
     fn idle(&self) -> bool {
-        match self.line.first() {
-            None | Some(b'#') => true,
-            Some(_) => false,
-        }
+        matches!(self.line.first(), None | Some(b'#'))
     }
 
     // The next command.
@@ -91,10 +85,7 @@ impl<R: BufRead, W: Write> Desk<R, W> {
                 break;
             }
             if !self.idle() {
-                return match parse(self.text()?) {
-                    Ok(command) => Ok(command),
-                    Err(expected) => Err(self.stop(expected)),
-                };
+                return parse(self.text()?).map_err(|expected| self.stop(expected));
             }
         }
         Ok(Command::Over)

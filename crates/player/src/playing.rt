@@ -128,14 +128,14 @@ fn call_store<R: BufRead, W: Write, S: Store>(
         Command::Read(w) => {
             let (refusal, word) = match store.read(w) {
                 Ok(word) => (0, word),
-                Err(refusal) => (refusal.code(), 0),
+                Err(refusal) => (u32::from(refusal), 0),
             };
             writeln!(desk.out, "read {refusal} {word}")?;
         }
         Command::Write(w, v) => {
             let refusal = match store.write(w, v) {
                 Ok(()) => 0,
-                Err(refusal) => refusal.code(),
+                Err(refusal) => u32::from(refusal),
             };
             writeln!(desk.out, "write {refusal}")?;
         }

@@ -2,7 +2,7 @@
 
 use crate::desk::Desk;
 use crate::stops::Stop;
-use crate::text::{Text, read};
+use crate::text::read;
 use std::io::{BufRead, Write};
 use std::str::FromStr;
 
@@ -18,27 +18,17 @@ where
 {
     memory.clear();
     memory.resize(n as usize, zero)?;
-    match put_cells(desk.text()?, memory.as_mut_slice()) {
-        Ok(()) => Ok(()),
-        Err(expected) => Err(desk.stop(expected)),
-    }
+    put_cells(desk.text()?, memory.as_mut_slice()).map_err(|expected| desk.stop(expected))
 }
 
 fn put_cells<T: FromStr + Copy + Drop>(line: &str, memory: &mut [T]) -> Result<(), &'static str>
 where
     T::Err: Drop,
 {
-    let mut text = Text::new(line);
-    let _ = text.next();
-    let _ = text.next();
-    let _ = text.next();
-    for _ in 0..line.len() {
-        match text.next() {
-            None => return Ok(()),
-            Some(cell) => put_cell(cell, memory)?,
-        }
+    for cell in line.split(' ').skip(3) {
+        put_cell(cell, memory)?;
     }
-    text.finish()
+    Ok(())
 }
 
 // Makes one cell, written i=v.
@@ -46,14 +36,10 @@ fn put_cell<T: FromStr + Copy + Drop>(cell: &str, memory: &mut [T]) -> Result<()
 where
     T::Err: Drop,
 {
-    let Some((place, value)) = cell.split_once('=') else {
-        return Err("a cell, as 1=7");
-    };
+    let (place, value) = cell.split_once('=').ok_or("a cell, as 1=7")?;
     let i: u32 = read(Some(place), "a cell, as 1=7")?;
     let v: T = read(Some(value), "a cell with a value that it can hold")?;
-    if i as usize >= memory.len() {
-        return Err("a cell of the store");
-    }
-    memory[i as usize] = v;
+    let slot = memory.get_mut(i as usize).ok_or("a cell of the store")?;
+    *slot = v;
     Ok(())
 }

@@ -62,7 +62,7 @@ fn verdict<R: BufRead, W: Write>(
 ) -> Result<(), Stop> {
     let (refusal, line) = match answer {
         Ok(()) => (0, 0),
-        Err(fault) => (fault.refusal.code(), fault.line),
+        Err(fault) => (u32::from(fault.refusal), fault.line),
     };
     writeln!(desk.out, "{what} {refusal} {line}")?;
     Ok(())

@@ -2,64 +2,68 @@
 
 use rules::Place;
 use session::place_of;
-use std::str::FromStr;
+use std::str::{FromStr, Split};
 
-// What is left to read; none after the last word.
-#[derive(Clone, Copy)]
+// The words that are left to read.
+#[derive(Drop)]
 pub struct Text<'a> {
-    rest: Option<&'a str>,
+    words: Split<'a, char>,
+}
+
+// A number that the text writes, and what is expected where it does not.
+pub(crate) trait Number: FromStr + Drop {
+    const EXPECTED: &'static str;
+}
+
+impl Number for u8 {
+    const EXPECTED: &'static str = "a number from 0 to 255";
+}
+
+impl Number for u16 {
+    const EXPECTED: &'static str = "a number from 0 to 65535";
+}
+
+impl Number for u32 {
+    const EXPECTED: &'static str = "a number from 0 to 4294967295";
+}
+
+impl Number for i32 {
+    const EXPECTED: &'static str = "a number from -2147483648 to 2147483647";
 }
 
 impl<'a> Text<'a> {
     pub(crate) fn new(line: &'a str) -> Text<'a> {
-        Text { rest: Some(line) }
+        Text {
+            words: line.split(' '),
+        }
     }
 
     // The next word, if there is one.
     pub(crate) fn next(&mut self) -> Option<&'a str> {
-        let rest = self.rest?;
-        match rest.split_once(' ') {
-            Some((word, after)) => {
-                self.rest = Some(after);
-                Some(word)
-            }
-            None => {
-                self.rest = None;
-                Some(rest)
-            }
-        }
+        self.words.next()
     }
 
     // That no word is left.
-    pub(crate) fn finish(&self) -> Result<(), &'static str> {
-        match self.rest {
+    pub(crate) fn finish(&mut self) -> Result<(), &'static str> {
+        match self.next() {
             None => Ok(()),
             Some(_) => Err("no more words"),
         }
     }
 
-    pub(crate) fn small(&mut self) -> Result<u8, &'static str> {
-        read(self.next(), "a number from 0 to 255")
-    }
-
-    pub(crate) fn medium(&mut self) -> Result<u16, &'static str> {
-        read(self.next(), "a number from 0 to 65535")
-    }
-
-    pub(crate) fn large(&mut self) -> Result<u32, &'static str> {
-        read(self.next(), "a number from 0 to 4294967295")
-    }
-
-    pub(crate) fn signed(&mut self) -> Result<i32, &'static str> {
-        read(self.next(), "a number from -2147483648 to 2147483647")
+    pub(crate) fn number<N: Number>(&mut self) -> Result<N, &'static str>
+    where
+        N::Err: Drop,
+    {
+        read(self.next(), N::EXPECTED)
     }
 
     pub(crate) fn place(&mut self) -> Result<Place, &'static str> {
         let expected = "a place, as - or m1";
         match self.next() {
-            None => Err(expected),
             Some("-") => Ok(Place::None),
             Some(word) => lettered(word).ok_or(expected),
+            None => Err(expected),
         }
     }
 }
@@ -72,10 +76,7 @@ pub(crate) fn read<F: FromStr + Drop>(
 where
     F::Err: Drop,
 {
-    match word {
-        None => Err(expected),
-        Some(digits) => decimal(digits).ok_or(expected),
-    }
+    word.and_then(decimal).ok_or(expected)
 }
 
 // A number in digits, with no plus in front.
@@ -86,7 +87,7 @@ where
     if digits.starts_with('+') {
         return None;
     }
-    digits.parse::<F>().ok()
+    digits.parse().ok()
 }
 
 // The place that a word writes by a letter and an index.
