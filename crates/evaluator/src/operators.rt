@@ -12,6 +12,7 @@ pub(crate) fn one_if(b: bool) -> i32
 }
 
 // What the operator of a term's kind gives at two words.
+#[tactic(auto, using(std::proofs::lemmas::Int::wraps), unfolding(rules::specs::Word::operate))]
 pub(crate) fn operate(kind: u8, a: i32, b: i32) -> Result<i32, Refusal>
     ensures { result ≡ operated kind a b }
 {
@@ -21,8 +22,8 @@ pub(crate) fn operate(kind: u8, a: i32, b: i32) -> Result<i32, Refusal>
         6 => Ok(a ^ b),
         7 => Ok(a.wrapping_mul(b)),
         8 if b == 0 => Err(Refusal::ZeroDivisor),
-        9 if b == 0 => Err(Refusal::ZeroDivisor),
         8 => Ok(a.wrapping_div(b)),
+        9 if b == 0 => Err(Refusal::ZeroDivisor),
         9 => Ok(a.wrapping_rem(b)),
         10 => Ok(a & b),
         11 => Ok(a | b),

@@ -143,7 +143,7 @@ impl Kind {
 }
 
 // Why a call or a step refuses.
-#[derive(Clone, Copy)]
+#[derive(Clone, Copy, Debug, PartialEq, Eq)]
 pub enum Refusal {
     // a table is too long
     TooLong = 1,
@@ -192,7 +192,7 @@ impl Refusal {
 }
 
 // What a call keeps: its line, the record that was present before it, and the count of open locals.
-#[derive(Clone, Copy)]
+#[derive(Clone, Copy, Default)]
 pub struct Frame {
     pub line: u16,
     pub former: u16,
