@@ -7,7 +7,7 @@ ghost use Rattle.script.specs.Programs.{script_of};
 ghost use Rattle.work.specs.View.{state};
 ghost use Rattle.evaluator.specs.Waiting.{Pushed};
 
-use crate::operators::{one_if, operate};
+use crate::operators::operate;
 use crate::places::see;
 use crate::stack::Stack;
 use rules::{Refusal, Term};
@@ -38,12 +38,12 @@ fn take_term<S: Store>(store: &S, work: &Work, t: Term, stack: &mut Stack) -> Re
         }
         2 => {
             let v = see(store, work, t.first)?;
-            stack.push(one_if(v == 0))
+            stack.push(i32::from(v == 0))
         }
         3 => {
             let v = see(store, work, t.first)?;
             let w = see(store, work, t.second)?;
-            stack.push(one_if(v == w))
+            stack.push(i32::from(v == w))
         }
         _ => take_operator(t.kind, stack),
     }

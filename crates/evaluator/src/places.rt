@@ -63,8 +63,11 @@ pub fn write_at<S: Store>(store: &mut S, work: &mut Work, s: Spot, v: i32)
 {
     match s {
         Spot::InBook(w) => put_word(store, w, v),
-        Spot::InLocals(i) if i < work.locals.len() => work.locals[i] = v,
-        Spot::InLocals(_) => {}
+        Spot::InLocals(i) => {
+            if let Some(local) = work.locals.get_mut(i) {
+                *local = v;
+            }
+        }
     }
 }
 
