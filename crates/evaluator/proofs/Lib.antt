@@ -1,4 +1,4 @@
-mod Words
 mod Quotients
 mod Operations
 mod Terms
+pub mod Chains

@@ -11,10 +11,6 @@ use Rattle.rules.specs.Word.{truth, eq_z, word}
 use Rattle.rules.specs.Expression.{onto, operated, taken, worked}
 use Rattle.evaluator.specs.Waiting.{alone}
 
-pub taken_operator : (t : Term) (a b : Result ℤ Refusal) (vs : List ℤ) → 4 ≤ t.kind → taken t a b vs ≡ operated t.kind vs
-unfolding taken
-taken_operator t a b vs h = ap (λ f. f vs) (get_or_past ((λ vs. onto vs (word t.number)) ∷ (λ vs. a >>= onto vs) ∷ (λ vs. a >>= λ v. onto vs (truth (eq_z v (pos 0)))) ∷ (λ vs. a >>= λ v. b >>= λ w. onto vs (truth (eq_z v w))) ∷ []) t.kind (operated t.kind) h)
-
 module _ (sees : Place → Result ℤ Refusal) where
   abbrev pub one : Term → List ℤ → Result (List ℤ) Refusal
   one t vs = taken t (sees t.first) (sees t.second) vs
@@ -40,11 +36,6 @@ module _ (sees : Place → Result ℤ Refusal) where
       where
         none : (vs : List ℤ) → worked sees [] vs ≡ alone vs
         none vs = refl
-
-pub not_one : (vs : List ℤ) → (length vs ≡ 1 → ⊥) → Err Malformed ≡ alone vs
-not_one [] h = refl
-not_one (v ∷ []) h = absurd (h refl)
-not_one (v ∷ w ∷ vs) h = refl
 
 -- the part of the pool from s to e is what the expression covers of the terms in use
 pub part_is : (ts : List Term) (first count size s e : ℕ) → e ≡ min (first + count) size → s ≡ min first e → size ≤ length ts

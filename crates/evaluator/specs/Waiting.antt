@@ -1,11 +1,7 @@
 -- The values that wait while an expression is worked out, the last first.
-use Rattle.std.specs.Prelude.{◌≡◌, List, [], ◌∷◌, reverse, take, ℤ, Ok, Err, Result}
+use Rattle.std.specs.Prelude.{◌≡◌, List, [], ◌∷◌, ℤ, Ok, Err, Result}
 use Rattle.rules.specs.declared.Refusal.{Refusal}
 use Rattle.rules.specs.declared.Refusal.TheVariants.{Malformed}
-use Rattle.evaluator.specs.declared.operands.Stack.{Stack}
-
-abbrev pub waiting : Stack → List ℤ
-waiting s = reverse (take s.count s.cells)
 
 -- the answer r and the values that wait after it say what o says
 abbrev pub Pushed : Result (Unit {0}) Refusal → List ℤ → Result (List ℤ) Refusal → Type 0

@@ -5,19 +5,20 @@ ghost use Rattle.rules.specs.Expression.{operated, taken};
 ghost use Rattle.rules.specs.Step.{see as seen, value as value_of};
 ghost use Rattle.script.specs.Programs.{script_of};
 ghost use Rattle.work.specs.View.{state};
-ghost use Rattle.evaluator.specs.Waiting.{waiting, Pushed};
+ghost use Rattle.evaluator.specs.Waiting.{Pushed};
 
-use crate::operands::Stack;
-use crate::operators::{one_if, operate};
+use crate::operators::operate;
 use crate::places::see;
+use crate::stack::Stack;
 use rules::{Refusal, Term};
 use script::program::Program;
 use store::Store;
 use work::{Work, line_at};
 
 // An operator takes the two last values, the left side below the right.
+#[tactic(auto, using(crate::proofs::Chains::chained), unfolding(rules::specs::Expression::operated))]
 fn take_operator(kind: u8, stack: &mut Stack) -> Result<(), Refusal>
-    ensures { Pushed result (waiting stack.new) (operated kind (waiting stack.old)) }
+    ensures { Pushed result stack.new (operated kind stack.old) }
 {
     let b = stack.pop()?;
     let a = stack.pop()?;
@@ -25,8 +26,9 @@ fn take_operator(kind: u8, stack: &mut Stack) -> Result<(), Refusal>
     stack.push(v)
 }
 
+#[tactic(auto, using(crate::proofs::Chains::chained), unfolding(rules::specs::Expression::taken))]
 fn take_term<S: Store>(store: &S, work: &Work, t: Term, stack: &mut Stack) -> Result<(), Refusal>
-    ensures { Pushed result (waiting stack.new) (taken t (seen (state work.now (S.Store.book store.now)) t.first) (seen (state work.now (S.Store.book store.now)) t.second) (waiting stack.old)) }
+    ensures { Pushed result stack.new (taken t (seen (state work.now (S.Store.book store.now)) t.first) (seen (state work.now (S.Store.book store.now)) t.second) stack.old) }
 {
     match t.kind {
         0 => stack.push(t.number),
@@ -36,12 +38,12 @@ fn take_term<S: Store>(store: &S, work: &Work, t: Term, stack: &mut Stack) -> Re
         }
         2 => {
             let v = see(store, work, t.first)?;
-            stack.push(one_if(v == 0))
+            stack.push(i32::from(v == 0))
         }
         3 => {
             let v = see(store, work, t.first)?;
             let w = see(store, work, t.second)?;
-            stack.push(one_if(v == w))
+            stack.push(i32::from(v == w))
         }
         _ => take_operator(t.kind, stack),
     }

@@ -3,7 +3,6 @@
 #![tactic(auto)]
 
 mod expressions;
-mod operands;
 mod operators;
 mod places;
 mod stack;

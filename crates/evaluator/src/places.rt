@@ -12,11 +12,7 @@ use work::Work;
 fn first_local(work: &Work) -> u16
     ensures { result ≡ base (state work.now []).frames }
 {
-    if work.depth == 0 {
-        0
-    } else {
-        work.frames[work.depth - 1].count
-    }
+    work.frames.last().map_or(0, |frame| frame.count)
 }
 
 // Where a place lies while this record is present and this local is the frame's first.
@@ -44,10 +40,7 @@ pub fn find(work: &Work, p: Place) -> Result<Spot, Refusal>
 pub fn word_at<S: Store>(store: &S, w: u32) -> i32
     ensures { result ≡ slice_index_or (S.Store.book store.now) w (pos 0) }
 {
-    match store.read(w) {
-        Ok(v) => v,
-        Err(_) => 0,
-    }
+    store.read(w).unwrap_or(0)
 }
 
 pub fn put_word<S: Store>(store: &mut S, w: u32, v: i32)
@@ -61,8 +54,7 @@ pub fn read_at<S: Store>(store: &S, work: &Work, s: Spot) -> i32
 {
     match s {
         Spot::InBook(w) => word_at(store, w),
-        Spot::InLocals(i) if i < work.opened => work.locals[i],
-        Spot::InLocals(_) => 0,
+        Spot::InLocals(i) => work.locals.get(i).copied().unwrap_or(0),
     }
 }
 
@@ -71,12 +63,16 @@ pub fn write_at<S: Store>(store: &mut S, work: &mut Work, s: Spot, v: i32)
 {
     match s {
         Spot::InBook(w) => put_word(store, w, v),
-        Spot::InLocals(i) if i < work.opened => work.locals[i] = v,
-        Spot::InLocals(_) => {}
+        Spot::InLocals(i) => {
+            if let Some(local) = work.locals.get_mut(i) {
+                *local = v;
+            }
+        }
     }
 }
 
 // What a place holds.
+#[tactic(auto, using(crate::proofs::Chains::chained))]
 pub(crate) fn see<S: Store>(store: &S, work: &Work, p: Place) -> Result<i32, Refusal>
     ensures { result ≡ seen (state work.now (S.Store.book store.now)) p }
 {

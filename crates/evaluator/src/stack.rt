@@ -1,50 +1,54 @@
 ghost use Rattle.std.specs.Prelude.{◌≡◌, []};
 ghost use Rattle.rules.specs.Expression.{onto};
-ghost use Rattle.evaluator.specs.Waiting.{waiting, Pushed, top_of, below, alone};
+ghost use Rattle.evaluator.specs.Waiting.{Pushed, top_of, below, alone};
 
-use crate::operands::Stack;
+use arrayvec::ArrayVec;
 use rules::Refusal;
+use std::marker::Model;
+
+// The values that wait while an expression is worked out, at most sixteen. A clause sees their list, the last first.
+#[derive(Drop)]
+pub(crate) struct Stack {
+    cells: ArrayVec<i32, 16>,
+}
+
+impl Model for Stack {
+    ghost use Rattle.std.specs.Prelude.{List, reverse, ℤ};
+
+    ghost Value = { List ℤ };
+
+    ghost view = { λ s. reverse s.cells.items };
+}
 
 impl Stack {
     pub(crate) fn new() -> Self
-        ensures { waiting result ≡ [] }
+        ensures { result ≡ [] }
     {
         Stack {
-            cells: [0; 16],
-            count: 0,
+            cells: ArrayVec::new(),
         }
     }
 
     pub(crate) fn push(&mut self, v: i32) -> Result<(), Refusal>
-        ensures { Pushed result (waiting self.new) (onto (waiting self.old) v) }
+        ensures { Pushed result self.new (onto self.old v) }
     {
-        if self.count >= 16 {
-            return Err(Refusal::Malformed);
-        }
-        self.cells[self.count] = v;
-        self.count += 1;
-        Ok(())
+        self.cells.try_push(v).map_err(|_| Refusal::Malformed)
     }
 
     pub(crate) fn pop(&mut self) -> Result<i32, Refusal>
-        ensures answer { result ≡ top_of (waiting self.old) }
-        ensures after { waiting self.new ≡ below (waiting self.old) }
+        ensures answer { result ≡ top_of self.old }
+        ensures after { self.new ≡ below self.old }
     {
-        if self.count == 0 {
-            return Err(Refusal::Malformed);
-        }
-        self.count -= 1;
-        Ok(self.cells[self.count])
+        self.cells.pop().ok_or(Refusal::Malformed)
     }
 
     // The value that waits alone.
     pub(crate) fn only(&self) -> Result<i32, Refusal>
-        ensures { result ≡ alone (waiting self.now) }
+        ensures { result ≡ alone self.now }
     {
-        if self.count == 1 {
-            Ok(self.cells[0])
-        } else {
-            Err(Refusal::Malformed)
+        match self.cells.as_slice() {
+            [v] => Ok(*v),
+            _ => Err(Refusal::Malformed),
         }
     }
 }

@@ -1,2 +1,1 @@
 pub mod Methods
-mod Framed

@@ -1,5 +1,5 @@
 -- The state of the rules that a work state and a book stand for.
-use Rattle.std.specs.Prelude.{◌≡◌, ℕ, Bool, true, false, List, [], reverse, take, ℤ, Some, None, Option}
+use Rattle.std.specs.Prelude.{◌≡◌, ℕ, Bool, true, false, List, [], reverse, ℤ, Some, None, Option}
 use Rattle.rules.specs.Script.{Script, has_method}
 use Rattle.rules.specs.Step.{State}
 use Rattle.rules.specs.Run.{start}
@@ -11,8 +11,8 @@ state w b =
       position = w.position;
       forward = w.forward;
       present = w.present;
-      locals = take w.opened w.locals;
-      frames = reverse (take w.depth w.frames);
+      locals = w.locals.items;
+      frames = reverse w.frames.items;
       book = b;
     }
 

@@ -7,24 +7,16 @@ ghost use Rattle.work.specs.View.{state, Method, Started};
 
 use crate::parts::Work;
 use crate::table::entry;
-use rules::Frame;
+use arrayvec::ArrayVec;
 use script::program::Program;
-
-const NO_FRAME: Frame = Frame {
-    line: 0,
-    former: 0,
-    count: 0,
-};
 
 // The number of method q, if there is that method.
 fn method(program: &Program, q: u32) -> Option<u8>
     ensures { Method result (script_of program.now) q }
 {
-    if q >= 256 {
-        return None;
-    }
-    if (program.begins[q as usize] as usize) < program.count {
-        Some(q as u8)
+    let m = u8::try_from(q).ok()?;
+    if (program.begins[m as usize] as usize) < program.count {
+        Some(m)
     } else {
         None
     }
@@ -38,10 +30,8 @@ fn fresh(position: u32, forward: bool) -> Work
         position,
         forward,
         present: 0,
-        locals: [0; 256],
-        opened: 0,
-        frames: [NO_FRAME; 64],
-        depth: 0,
+        locals: ArrayVec::new(),
+        frames: ArrayVec::new(),
     }
 }
 
@@ -49,9 +39,7 @@ fn fresh(position: u32, forward: bool) -> Work
 pub fn start(program: &Program, q: u32, forward: bool) -> Option<Work>
     ensures { Started result (script_of program.now) forward q }
 {
-    let Some(m) = method(program, q) else {
-        return None;
-    };
+    let m = method(program, q)?;
     Some(fresh(entry(program, forward, m), forward))
 }
 

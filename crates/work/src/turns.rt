@@ -35,8 +35,5 @@ fn ends(kind: u8, forward: bool) -> bool
 pub fn finished(work: &Work, program: &Program) -> bool
     ensures { result ≡ is_finished (script_of program.now) (state work.now []) }
 {
-    if work.depth != 0 {
-        return false;
-    }
-    ends(line_at(program, turn(work)).kind, work.forward)
+    work.frames.is_empty() && ends(line_at(program, turn(work)).kind, work.forward)
 }

@@ -3,18 +3,10 @@ use Rattle.rules.specs.Answer.{◌>>=◌}
 use Rattle.rules.specs.Expression.{operated}
 use Rattle.evaluator.proofs.expressions.take_operator.Goals as goal
 
-pub returns : goal.returns
-unfolding operated ◌>>=◌
-returns c = search rules
-
-pub returns-in_err-b : goal.returns-in_err-b
-unfolding operated ◌>>=◌
-returns-in_err-b c = search rules
-
-pub returns-in_err-a : goal.returns-in_err-a
-unfolding operated ◌>>=◌
-returns-in_err-a c = search rules
-
 pub returns-in_err-v : goal.returns-in_err-v
 unfolding operated ◌>>=◌
 returns-in_err-v c = search rules
+
+pub returns : goal.returns
+unfolding operated ◌>>=◌
+returns c = search rules
