@@ -1,13 +1,15 @@
 -- Terms worked out one after the other.
 use Rattle.std.proofs.Common.{◌≡◌, ℕ, zero, suc, ◌+◌, ◌-◌, ◌<◌, ◌≤◌, min, List, [], ◌∷◌, length, get_or, take, drop, ℤ, pos, Ok, Err, Result, sym, refl, ap, ◌∙◌, ⊎_elim, arith}
-use Rattle.std.proofs.lemmas.Bool.{cases_lt}
-use Rattle.std.proofs.lemmas.List.{at_drop_more, at_drop_all, get_or_past, take-take, drop-take, drop_all, length-take, length-take-le, take_all}
+use Rattle.std.proofs.lemmas.List.{at_drop_more, at_drop_all, get_or_past}
 use Rattle.rules.specs.declared.Refusal.{Refusal}
 use Rattle.rules.specs.declared.Refusal.TheVariants.{Malformed}
 use Rattle.rules.specs.declared.Place.{Place}
 use Rattle.rules.specs.declared.Term.{Term}
 use Rattle.rules.specs.Answer.{◌>>=◌}
-use Rattle.rules.specs.Word.{truth, eq_z, word}
+use Rattle.rules.specs.Word.{operate, operators, no_operator}
+use Rattle.rules.specs.Terms.{sign}
+use Rattle.rules.specs.declared.Operator.{Operator}
+use Rattle.rules.proofs.Signs.{sign_range}
 use Rattle.rules.specs.Expression.{onto, operated, taken, worked}
 use Rattle.evaluator.specs.Waiting.{alone}
 
@@ -37,28 +39,27 @@ module _ (sees : Place → Result ℤ Refusal) where
         none : (vs : List ℤ) → worked sees [] vs ≡ alone vs
         none vs = refl
 
--- the part of the pool from s to e is what the expression covers of the terms in use
-pub part_is : (ts : List Term) (first count size s e : ℕ) → e ≡ min (first + count) size → s ≡ min first e → size ≤ length ts
-    → take (e - s) (drop s ts) ≡ take count (drop first (take size ts))
-part_is ts first count size s e p q l = ⊎_elim past inside (cases_lt size first)
-  where
-    past : size < first → take (e - s) (drop s ts) ≡ take count (drop first (take size ts))
-    past h =
-        let z : e - s ≡ 0 = omega arith in
-        let n : length (take size ts) ≤ first = let k = length-take-le size ts l in omega arith in
-        rw (z, drop_all first (take size ts) n) (sym (nothing count))
-      where
-        nothing : (n : ℕ) → take {A = Term} n [] ≡ []
-        nothing zero = refl
-        nothing (suc n) = refl
+-- a term past the first four kinds is an operator
+past_four : {X : Type 0} (a b c d e : X) (n : ℕ) → 3 < n → get_or (a ∷ b ∷ c ∷ d ∷ []) n e ≡ e
+past_four a b c d e n h = get_or_past (a ∷ b ∷ c ∷ d ∷ []) n e h
 
-    inside : first ≤ size → take (e - s) (drop s ts) ≡ take count (drop first (take size ts))
-    inside h =
-        let d = size - first in
-        let f : s ≡ first = omega arith in
-        let k : first + (size - first) ≡ size = omega arith in
-        let a : drop first (take size ts) ≡ take (size - first) (drop first ts) = ap (λ n. drop first (take n ts)) (sym k) ∙ drop-take first (size - first) ts in
-        ⊎_elim
-        (λ m. let n : e - s ≡ count = omega arith in rw (n, f, a) (sym (take-take count (size - first) (drop first ts) (omega arith))))
-        (λ m. let n : e - s ≡ size - first = omega arith in rw (n, f, a) (sym (take_all count (take (size - first) (drop first ts)) (let j = length-take (size - first) (drop first ts) in omega arith))))
-        (cases_lt count (size - first))
+module _ (t : Term) (a b : Result ℤ Refusal) (vs : List ℤ) where
+  operates : 3 < t.kind → taken t a b vs ≡ operated t.kind vs
+  unfolding taken
+  operates h = ap (λ (f : List ℤ → Result (List ℤ) Refusal). f vs) (past_four _ _ _ _ (operated t.kind) t.kind h)
+
+  pub operator_term : (o : Operator) → sign o ≡ t.kind → taken t a b vs ≡ operated (sign o) vs
+  operator_term o e = let s = sign_range o in operates (omega (arith, e, s.0)) ∙ ap (λ k. operated k vs) (sym e)
+
+  -- a kind that no term has
+  pub no_term : 19 < t.kind → taken t a b vs ≡ Err Malformed
+  unfolding operated operate ◌>>=◌
+  no_term h = operates (omega (arith, h)) ∙ none vs
+    where
+      unknown : (x y : ℤ) → operate t.kind x y ≡ Err Malformed
+      unknown x y = ap (λ (f : ℤ → ℤ → Result ℤ Refusal). f x y) (get_or_past operators t.kind no_operator h)
+
+      none : (vs : List ℤ) → operated t.kind vs ≡ Err Malformed
+      none [] = refl
+      none (y ∷ []) = refl
+      none (y ∷ x ∷ vs) = ap (λ r. r >>= onto vs) (unknown x y)

@@ -2,6 +2,7 @@
 
 ghost use Rattle.std.specs.Prelude.{◌≡◌};
 ghost use Rattle.rules.specs.Expression.{operated, taken};
+ghost use Rattle.rules.specs.Terms.{sign};
 ghost use Rattle.rules.specs.Step.{see as seen, value as value_of};
 ghost use Rattle.script.specs.Programs.{script_of};
 ghost use Rattle.work.specs.View.{state};
@@ -10,19 +11,19 @@ ghost use Rattle.evaluator.specs.Waiting.{Pushed};
 use crate::operators::operate;
 use crate::places::see;
 use crate::stack::Stack;
-use rules::{Refusal, Term};
+use rules::{Operator, Refusal, Term, TermKind};
 use script::program::Program;
 use store::Store;
 use work::{Work, line_at};
 
 // An operator takes the two last values, the left side below the right.
 #[tactic(auto, using(crate::proofs::Chains::chained), unfolding(rules::specs::Expression::operated))]
-fn take_operator(kind: u8, stack: &mut Stack) -> Result<(), Refusal>
-    ensures { Pushed result stack.new (operated kind stack.old) }
+fn take_operator(operator: Operator, stack: &mut Stack) -> Result<(), Refusal>
+    ensures { Pushed result stack.new (operated (sign operator) stack.old) }
 {
     let b = stack.pop()?;
     let a = stack.pop()?;
-    let v = operate(kind, a, b)?;
+    let v = operate(operator, a, b)?;
     stack.push(v)
 }
 
@@ -30,22 +31,22 @@ fn take_operator(kind: u8, stack: &mut Stack) -> Result<(), Refusal>
 fn take_term<S: Store>(store: &S, work: &Work, t: Term, stack: &mut Stack) -> Result<(), Refusal>
     ensures { Pushed result stack.new (taken t (seen (state work.now (S.Store.book store.now)) t.first) (seen (state work.now (S.Store.book store.now)) t.second) stack.old) }
 {
-    match t.kind {
-        0 => stack.push(t.number),
-        1 => {
+    match TermKind::try_from(t.kind)? {
+        TermKind::Number => stack.push(t.number),
+        TermKind::Word => {
             let v = see(store, work, t.first)?;
             stack.push(v)
         }
-        2 => {
+        TermKind::Nil => {
             let v = see(store, work, t.first)?;
             stack.push(i32::from(v == 0))
         }
-        3 => {
+        TermKind::Same => {
             let v = see(store, work, t.first)?;
             let w = see(store, work, t.second)?;
             stack.push(i32::from(v == w))
         }
-        _ => take_operator(t.kind, stack),
+        TermKind::Operator(operator) => take_operator(operator, stack),
     }
 }
 
@@ -53,11 +54,9 @@ fn take_term<S: Store>(store: &S, work: &Work, t: Term, stack: &mut Stack) -> Re
 pub fn value<S: Store>(store: &S, work: &Work, program: &Program, l: u16) -> Result<i32, Refusal>
     ensures { result ≡ value_of (script_of program.now) (state work.now (S.Store.book store.now)) l }
 {
-    let line = line_at(program, l as u32);
-    let end = (line.first as usize + line.count as usize).min(program.size);
-    let start = (line.first as usize).min(end);
+    let line = line_at(program, u32::from(l));
     let mut stack = Stack::new();
-    for t in &program.terms[start..end] {
+    for t in program.expression(line) {
         take_term(store, work, *t, &mut stack)?;
     }
     stack.only()

@@ -15,11 +15,7 @@ fn method(program: &Program, q: u32) -> Option<u8>
     ensures { Method result (script_of program.now) q }
 {
     let m = u8::try_from(q).ok()?;
-    if (program.begins[m as usize] as usize) < program.count {
-        Some(m)
-    } else {
-        None
-    }
+    (usize::from(program.begin(m)) < program.len()).then_some(m)
 }
 
 // No frames, no locals and no present record, at a position.

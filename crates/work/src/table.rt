@@ -12,11 +12,7 @@ use script::program::Program;
 pub fn line_at(program: &Program, k: u32) -> Line
     ensures { result ≡ line_at (script_of program.now).lines k }
 {
-    if (k as usize) < program.count {
-        program.lines[k as usize]
-    } else {
-        NO_LINE
-    }
+    program.line(k as usize).unwrap_or(NO_LINE)
 }
 
 // Where method q is entered in this direction: after its begin, or before its end.
@@ -24,8 +20,8 @@ pub fn entry(program: &Program, forward: bool, q: u8) -> u32
     ensures { result ≡ entered (script_of program.now) forward q }
 {
     if forward {
-        program.begins[q as usize] as u32 + 1
+        u32::from(program.begin(q)) + 1
     } else {
-        program.ends[q as usize] as u32
+        u32::from(program.end(q))
     }
 }

@@ -28,7 +28,7 @@ fn ends(kind: u8, forward: bool) -> bool
     ensures { result ≡ (met forward kind == code End) }
 {
     let last = if forward { Kind::End } else { Kind::Begin };
-    kind == last.code()
+    kind == u8::from(last)
 }
 
 // Whether an end is met forward, or a begin backward, with no frame.
