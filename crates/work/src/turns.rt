@@ -1,7 +1,7 @@
 // Whose turn it is, and whether the method is finished.
 
 ghost use Rattle.std.specs.Prelude.{◌≡◌, [], ◌==◌};
-ghost use Rattle.rules.specs.Kinds.{code};
+ghost use Rattle.rules.specs.Kinds.{code, kind_of};
 ghost use Rattle.rules.specs.declared.Kind.TheVariants.{End};
 ghost use Rattle.rules.specs.Step.{turn_of, met, finished as is_finished};
 ghost use Rattle.script.specs.Programs.{script_of};
@@ -23,12 +23,22 @@ pub fn turn(work: &Work) -> u32
     }
 }
 
-// Whether a method ends with a line of this kind, met in this direction.
-fn ends(kind: u8, forward: bool) -> bool
-    ensures { result ≡ (met forward kind == code End) }
+// The kind of a line of this number, as it is met in this direction: backward, one below 14 is the other of its two.
+pub fn met(number: u8, forward: bool) -> Option<Kind>
+    ensures { result ≡ kind_of (met forward number) }
 {
-    let last = if forward { Kind::End } else { Kind::Begin };
-    kind == last.code()
+    Kind::of(if forward || number >= 14 {
+        number
+    } else {
+        number ^ 1
+    })
+}
+
+// Whether a method ends with a line of this kind, met in this direction.
+fn ends(number: u8, forward: bool) -> bool
+    ensures { result ≡ (met forward number == code End) }
+{
+    matches!(met(number, forward), Some(Kind::End))
 }
 
 // Whether an end is met forward, or a begin backward, with no frame.
