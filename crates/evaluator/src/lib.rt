@@ -8,4 +8,4 @@ mod places;
 mod stack;
 
 pub use expressions::value;
-pub use places::{find, find_in, put_word, read_at, word_at, write_at};
+pub use places::{find, find_in, put_word, read_at, record_at, word_at, write_at};

@@ -1,6 +1,7 @@
 // Where places lie, and the words that lie there.
 
 ghost use Rattle.std.specs.Prelude.{◌≡◌, [], pos, slice_index_or, slice_set};
+ghost use Rattle.rules.specs.Book.{record_at};
 ghost use Rattle.rules.specs.Step.{base, found, find as found_by, read, write, see as seen};
 ghost use Rattle.work.specs.View.{state};
 
@@ -15,6 +16,13 @@ fn first_local(work: &Work) -> u16
     work.frames.last().map_or(0, |frame| frame.count)
 }
 
+// The first word of record k.
+pub fn record_at(k: u16) -> u32
+    ensures { result ≡ record_at k }
+{
+    73 + 8 * k as u32
+}
+
 // Where a place lies while this record is present and this local is the frame's first.
 pub fn find_in(present: u16, first: u16, p: Place) -> Result<Spot, Refusal>
     ensures { result ≡ found present first p }
@@ -24,8 +32,8 @@ pub fn find_in(present: u16, first: u16, p: Place) -> Result<Spot, Refusal>
         Place::M(i) => Ok(Spot::InBook(i as u32)),
         Place::R(i) => Ok(Spot::InBook(64 + i as u32)),
         Place::N(_) | Place::F(_) if present == 0 => Err(Refusal::NoRecord),
-        Place::N(i) => Ok(Spot::InBook(73 + 8 * present as u32 + i as u32)),
-        Place::F(i) => Ok(Spot::InBook(73 + 8 * present as u32 + (4 + i as u32))),
+        Place::N(i) => Ok(Spot::InBook(record_at(present) + i as u32)),
+        Place::F(i) => Ok(Spot::InBook(record_at(present) + (4 + i as u32))),
         Place::V(i) => Ok(Spot::InLocals(first as usize + i as usize)),
     }
 }

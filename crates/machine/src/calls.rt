@@ -5,18 +5,21 @@ ghost use Rattle.rules.specs.Script.{line_at};
 ghost use Rattle.rules.specs.Step.{callee, holding, across, base};
 ghost use Rattle.script.specs.Programs.{script_of};
 ghost use Rattle.work.specs.View.{state};
+ghost use Rattle.arrayvec.specs.ArrayVec.{array_vec_len};
 ghost use Rattle.machine.specs.Steps.{Made};
 ghost use Rattle.machine.specs.Acting.{enters, comes_back, framed, under, Top, back_in};
 
 use crate::changes::pass;
+use crate::due::Due;
 use crate::records::record_named;
 use evaluator::{find, find_in, read_at};
-use rules::{Frame, Kind, Place, Refusal};
+use rules::{Frame, Kind, Line, Place, Refusal};
 use script::program::Program;
 use store::Store;
-use work::{Work, line_at};
+use work::{Work, entry, line_at};
 
 // The record that a call on y makes the present one.
+#[tactic(auto, using(evaluator::proofs::Chains::chained))]
 fn called_record<S: Store>(store: &S, work: &Work, y: Place) -> Result<u16, Refusal>
     ensures { result ≡ callee (state work.now (S.Store.book store.now)) y }
 {
@@ -24,77 +27,69 @@ fn called_record<S: Store>(store: &S, work: &Work, y: Place) -> Result<u16, Refu
         return Ok(work.present);
     }
     let u = find(work, y)?;
-    let k = record_named(store, read_at(store, work, u));
-    if k == 0 {
-        return Err(Refusal::NoRecord);
-    }
-    Ok(k)
+    record_named(store, read_at(store, work, u)).ok_or(Refusal::NoRecord)
 }
 
 fn push_frame(work: &mut Work, l: u16, k: u16)
-    requires { work.old.depth < 64 }
+    requires { array_vec_len work.old.frames < 64 }
     ensures { state work.new [] ≡ framed l k (state work.old []) }
 {
-    work.frames[work.depth] = Frame {
+    work.frames.push(Frame {
         line: l,
         former: work.present,
-        count: work.opened as u16,
-    };
-    work.depth += 1;
+        count: work.locals.len() as u16,
+    });
     work.present = k;
 }
 
 fn has_room(work: &Work) -> bool
-    ensures count { result ≡ nat_lt work.now.depth 64 }
-    ensures frames { result ≡ nat_lt (length (state work.now []).frames) 64 }
+    ensures { result ≡ nat_lt (length (state work.now []).frames) 64 }
 {
-    work.depth < 64
+    !work.frames.is_full()
 }
 
-// call, and uncall with the direction reversed, into a method that is entered there
-pub(crate) fn enter<S: Store>(
-    store: &mut S,
-    work: &mut Work,
-    l: u16,
-    there: u32,
-    forward: bool,
-    y: Place,
-) -> Result<(), Refusal>
-    ensures { Made result work.old (S.Store.book store.old) work.new (S.Store.book store.new) (λ s. enters l s there forward y) }
-{
-    if !has_room(work) {
-        return Err(Refusal::TooDeep);
+impl Due {
+    // call, and uncall with the direction reversed: into the method that the line calls
+    #[tactic(auto, using(evaluator::proofs::Chains::chained), unfolding(crate::specs::Acting::enters))]
+    pub(crate) fn call<S: Store>(
+        self,
+        store: &S,
+        work: &mut Work,
+        program: &Program,
+        forward: bool,
+    ) -> Result<(), Refusal>
+        ensures { Made result work.old (S.Store.book store.now) work.new (S.Store.book store.now) (λ s. enters (script_of program.now) self s forward) }
+    {
+        if !has_room(work) {
+            return Err(Refusal::TooDeep);
+        }
+        let k = called_record(store, work, self.line.y)?;
+        push_frame(work, self.number, k);
+        work.forward = forward;
+        work.position = entry(program, forward, self.line.q);
+        Ok(())
     }
-    let k = called_record(store, work, y)?;
-    push_frame(work, l, k);
-    work.forward = forward;
-    work.position = there;
-    Ok(())
 }
 
 // The frame of the method that runs.
 fn top_frame(work: &Work) -> Option<Frame>
     ensures { Top result work.now }
 {
-    if work.depth == 0 {
-        None
-    } else {
-        Some(work.frames[work.depth - 1])
-    }
+    work.frames.last().copied()
 }
 
 // The first local of the calling frame.
 fn caller_local(work: &Work) -> u16
     ensures { result ≡ base (under work.now) }
 {
-    if work.depth < 2 {
-        0
-    } else {
-        work.frames[work.depth - 2].count
+    match work.frames.as_slice() {
+        [.., caller, _] => caller.count,
+        _ => 0,
     }
 }
 
 // y, if named, found with the caller's record and locals, holds the present record.
+#[tactic(auto, using(evaluator::proofs::Chains::chained))]
 fn holds<S: Store>(store: &S, work: &Work, former: u16, y: Place) -> Result<(), Refusal>
     ensures { result ≡ holding (back_in former (under work.now) (state work.now (S.Store.book store.now))) y work.now.present }
 {
@@ -119,35 +114,30 @@ fn still_holds<S: Store>(store: &S, work: &Work, program: &Program, f: Frame) ->
 fn drop_frame(work: &mut Work, former: u16)
     ensures { state work.new [] ≡ back_in former (under work.old) (state work.old []) }
 {
-    work.depth = work.depth.saturating_sub(1);
+    let _ = work.frames.pop();
     work.present = former;
 }
 
 // The direction on the other side of a call or uncall line.
-fn direction(kind: u8, forward: bool) -> bool
-    ensures { result ≡ across kind forward }
+fn direction(line: Line, forward: bool) -> bool
+    ensures { result ≡ across line.kind forward }
 {
-    if kind == Kind::Uncall.code() {
-        !forward
-    } else {
-        forward
-    }
+    forward != line.is(Kind::Uncall)
 }
 
 // end met forward, and begin met backward, with a frame
+#[tactic(auto, using(evaluator::proofs::Chains::chained), unfolding(crate::specs::Acting::comes_back))]
 pub(crate) fn come_back<S: Store>(
-    store: &mut S,
+    store: &S,
     work: &mut Work,
     program: &Program,
 ) -> Result<(), Refusal>
-    ensures { Made result work.old (S.Store.book store.old) work.new (S.Store.book store.new) (λ s. comes_back (script_of program.now) s) }
+    ensures { Made result work.old (S.Store.book store.now) work.new (S.Store.book store.now) (λ s. comes_back (script_of program.now) s) }
 {
-    let Some(f) = top_frame(work) else {
-        return Err(Refusal::Unpaired);
-    };
+    let f = top_frame(work).ok_or(Refusal::Unpaired)?;
     still_holds(store, work, program, f)?;
     drop_frame(work, f.former);
-    work.forward = direction(line_at(program, f.line as u32).kind, work.forward);
+    work.forward = direction(line_at(program, f.line as u32), work.forward);
     pass(work, f.line);
     Ok(())
 }

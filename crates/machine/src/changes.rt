@@ -1,13 +1,16 @@
 // The lines that change number places and locals, and the position past a line.
 
-ghost use Rattle.std.specs.Prelude.{◌≡◌, ◌-◌, [], length, take};
-ghost use Rattle.rules.specs.Step.{go_to, past, with_locals, write, go};
+ghost use Rattle.std.specs.Prelude.{◌≡◌, []};
+ghost use Rattle.rules.specs.Step.{go_to, past, write};
+ghost use Rattle.script.specs.Programs.{script_of};
 ghost use Rattle.work.specs.View.{state};
 ghost use Rattle.machine.specs.Steps.{Made};
-ghost use Rattle.machine.specs.Acting.{raised, lowered, mixed, opens, closes};
+ghost use Rattle.machine.specs.Acting.{changed_by, changes, opens, closes};
 
-use evaluator::{find, read_at, write_at};
-use rules::{Place, Refusal, Spot};
+use crate::due::Due;
+use evaluator::{find, read_at, value, write_at};
+use rules::{Refusal, Spot};
+use script::program::Program;
 use store::Store;
 use work::Work;
 
@@ -15,19 +18,7 @@ use work::Work;
 pub(crate) fn pass(work: &mut Work, l: u16)
     ensures { state work.new [] ≡ go_to (past work.old.forward l) (state work.old []) }
 {
-    if work.forward {
-        work.position = l as u32 + 1;
-    } else {
-        work.position = l as u32;
-    }
-}
-
-// The step changes nothing but the position.
-pub(crate) fn go_past<S: Store>(store: &mut S, work: &mut Work, l: u16) -> Result<(), Refusal>
-    ensures { Made result work.old (S.Store.book store.old) work.new (S.Store.book store.new) (λ s. go l s) }
-{
-    pass(work, l);
-    Ok(())
+    work.position = if work.forward { l as u32 + 1 } else { l as u32 };
 }
 
 // The spot u takes the word v, and the position goes past line l.
@@ -38,99 +29,81 @@ pub(crate) fn settle<S: Store>(store: &mut S, work: &mut Work, l: u16, u: Spot, 
     pass(work, l);
 }
 
-// add, and subtract met backward
-pub(crate) fn raise<S: Store>(
-    store: &mut S,
-    work: &mut Work,
-    l: u16,
-    x: Place,
-    e: i32,
-) -> Result<(), Refusal>
-    ensures { Made result work.old (S.Store.book store.old) work.new (S.Store.book store.new) (λ s. raised l s x e) }
-{
-    let u = find(work, x)?;
-    let v = read_at(store, work, u);
-    settle(store, work, l, u, v.wrapping_add(e));
-    Ok(())
+// What a line makes of the word at its place and the value of its expression.
+#[derive(Clone, Copy)]
+pub(crate) enum Change {
+    Raise,
+    Lower,
+    Mix,
 }
 
-// subtract, and add met backward
-pub(crate) fn lower<S: Store>(
-    store: &mut S,
-    work: &mut Work,
-    l: u16,
-    x: Place,
-    e: i32,
-) -> Result<(), Refusal>
-    ensures { Made result work.old (S.Store.book store.old) work.new (S.Store.book store.new) (λ s. lowered l s x e) }
-{
-    let u = find(work, x)?;
-    let v = read_at(store, work, u);
-    settle(store, work, l, u, v.wrapping_sub(e));
-    Ok(())
-}
-
-// xor, met either way
-pub(crate) fn mix<S: Store>(
-    store: &mut S,
-    work: &mut Work,
-    l: u16,
-    x: Place,
-    e: i32,
-) -> Result<(), Refusal>
-    ensures { Made result work.old (S.Store.book store.old) work.new (S.Store.book store.new) (λ s. mixed l s x e) }
-{
-    let u = find(work, x)?;
-    let v = read_at(store, work, u);
-    settle(store, work, l, u, v ^ e);
-    Ok(())
-}
-
-// local, and delocal met backward
-pub(crate) fn open_local<S: Store>(
-    store: &mut S,
-    work: &mut Work,
-    l: u16,
-    e: i32,
-) -> Result<(), Refusal>
-    ensures { Made result work.old (S.Store.book store.old) work.new (S.Store.book store.new) (λ s. opens l s e) }
-{
-    if work.opened >= 256 {
-        return Err(Refusal::TooDeep);
+impl Change {
+    #[tactic(auto, using(std::proofs::lemmas::Int::wraps))]
+    fn of(self, v: i32, e: i32) -> i32
+        ensures { result ≡ changed_by self v e }
+    {
+        match self {
+            Change::Raise => v.wrapping_add(e),
+            Change::Lower => v.wrapping_sub(e),
+            Change::Mix => v ^ e,
+        }
     }
-    work.locals[work.opened] = e;
-    work.opened += 1;
-    pass(work, l);
-    Ok(())
 }
 
-// The last local closes.
-fn drop_local(work: &mut Work)
-    ensures { state work.new [] ≡ with_locals (take (length (state work.old []).locals - 1) (state work.old []).locals) (state work.old []) }
-{
-    work.opened = work.opened.saturating_sub(1);
-}
-
-// The last local closes, and the position goes past line l.
-fn shut(work: &mut Work, l: u16)
-    ensures { state work.new [] ≡ go_to (past work.old.forward l) (with_locals (take (length (state work.old []).locals - 1) (state work.old []).locals) (state work.old [])) }
-{
-    drop_local(work);
-    pass(work, l);
-}
-
-// delocal, and local met backward
-pub(crate) fn close_local<S: Store>(
-    store: &mut S,
-    work: &mut Work,
-    l: u16,
-    e: i32,
-) -> Result<(), Refusal>
-    ensures { Made result work.old (S.Store.book store.old) work.new (S.Store.book store.new) (λ s. closes l s e) }
-{
-    if read_at(store, work, Spot::InLocals(work.opened.saturating_sub(1))) != e {
-        return Err(Refusal::TestFailed);
+impl Due {
+    // add, subtract and xor
+    #[tactic(auto, using(evaluator::proofs::Chains::chained), unfolding(crate::specs::Acting::changes))]
+    pub(crate) fn change<S: Store>(
+        self,
+        store: &mut S,
+        work: &mut Work,
+        program: &Program,
+        change: Change,
+    ) -> Result<(), Refusal>
+        ensures { Made result work.old (S.Store.book store.old) work.new (S.Store.book store.new) (λ s. changes (script_of program.now) self s change) }
+    {
+        let e = value(store, work, program, self.number)?;
+        let u = find(work, self.line.x)?;
+        let v = change.of(read_at(store, work, u), e);
+        settle(store, work, self.number, u, v);
+        Ok(())
     }
-    shut(work, l);
-    Ok(())
+
+    // local
+    #[tactic(auto, using(evaluator::proofs::Chains::chained), unfolding(crate::specs::Acting::opens))]
+    pub(crate) fn open_local<S: Store>(
+        self,
+        store: &S,
+        work: &mut Work,
+        program: &Program,
+    ) -> Result<(), Refusal>
+        ensures { Made result work.old (S.Store.book store.now) work.new (S.Store.book store.now) (λ s. opens (script_of program.now) self s) }
+    {
+        if work.locals.is_full() {
+            return Err(Refusal::TooDeep);
+        }
+        let e = value(store, work, program, self.number)?;
+        work.locals.push(e);
+        pass(work, self.number);
+        Ok(())
+    }
+
+    // delocal
+    #[tactic(auto, using(evaluator::proofs::Chains::chained), unfolding(crate::specs::Acting::closes))]
+    pub(crate) fn close_local<S: Store>(
+        self,
+        store: &S,
+        work: &mut Work,
+        program: &Program,
+    ) -> Result<(), Refusal>
+        ensures { Made result work.old (S.Store.book store.now) work.new (S.Store.book store.now) (λ s. closes (script_of program.now) self s) }
+    {
+        let e = value(store, work, program, self.number)?;
+        if work.locals.last().copied().unwrap_or(0) != e {
+            return Err(Refusal::TestFailed);
+        }
+        let _ = work.locals.pop();
+        pass(work, self.number);
+        Ok(())
+    }
 }

@@ -2,8 +2,10 @@
 
 #![tactic(auto)]
 
+mod branches;
 mod calls;
 mod changes;
+mod due;
 mod records;
 mod references;
 mod steps;

@@ -7,98 +7,12 @@ ghost use Rattle.machine.specs.Steps.{Made};
 ghost use Rattle.machine.specs.Acting.{allocates, releases, duplicates, erases, exchanges};
 
 use crate::changes::{pass, settle};
+use crate::due::Due;
 use crate::records::{is_clear, lies_in, link, record_named, unlink};
 use evaluator::{find, read_at, word_at, write_at};
-use rules::{Place, Refusal, Spot};
+use rules::{Refusal, Spot};
 use store::Store;
 use work::Work;
-
-// new, and delete met backward
-pub(crate) fn allocate<S: Store>(
-    store: &mut S,
-    work: &mut Work,
-    l: u16,
-    x: Place,
-) -> Result<(), Refusal>
-    ensures { Made result work.old (S.Store.book store.old) work.new (S.Store.book store.new) (λ s. allocates l s x) }
-{
-    let u = find(work, x)?;
-    if read_at(store, work, u) != 0 {
-        return Err(Refusal::NotClear);
-    }
-    let head = word_at(store, 0);
-    if head == 0 {
-        return Err(Refusal::NoFree);
-    }
-    let k = record_named(store, head);
-    if k == 0 || lies_in(u, k) || !is_clear(store, 7, k) {
-        return Err(Refusal::FreeUnfit);
-    }
-    unlink(store, k);
-    settle(store, work, l, u, k as i32);
-    Ok(())
-}
-
-// delete, and new met backward
-pub(crate) fn release<S: Store>(
-    store: &mut S,
-    work: &mut Work,
-    l: u16,
-    x: Place,
-) -> Result<(), Refusal>
-    ensures { Made result work.old (S.Store.book store.old) work.new (S.Store.book store.new) (λ s. releases l s x) }
-{
-    let u = find(work, x)?;
-    let k = record_named(store, read_at(store, work, u));
-    if k == 0 {
-        return Err(Refusal::NoRecord);
-    }
-    if !is_clear(store, 8, k) {
-        return Err(Refusal::NotClear);
-    }
-    link(store, k);
-    settle(store, work, l, u, 0);
-    Ok(())
-}
-
-// copy, and uncopy met backward
-pub(crate) fn duplicate<S: Store>(
-    store: &mut S,
-    work: &mut Work,
-    l: u16,
-    x: Place,
-    y: Place,
-) -> Result<(), Refusal>
-    ensures { Made result work.old (S.Store.book store.old) work.new (S.Store.book store.new) (λ s. duplicates l s x y) }
-{
-    let u = find(work, x)?;
-    let w = find(work, y)?;
-    if read_at(store, work, w) != 0 {
-        return Err(Refusal::NotClear);
-    }
-    let v = read_at(store, work, u);
-    settle(store, work, l, w, v);
-    Ok(())
-}
-
-// uncopy, and copy met backward
-pub(crate) fn erase<S: Store>(
-    store: &mut S,
-    work: &mut Work,
-    l: u16,
-    x: Place,
-    y: Place,
-) -> Result<(), Refusal>
-    ensures { Made result work.old (S.Store.book store.old) work.new (S.Store.book store.new) (λ s. erases l s x y) }
-{
-    let u = find(work, x)?;
-    let w = find(work, y)?;
-    if read_at(store, work, w) != read_at(store, work, u) {
-        return Err(Refusal::NotClear);
-    }
-    settle(store, work, l, w, 0);
-    Ok(())
-}
 
 // Two spots take each other's words.
 fn swap_words<S: Store>(store: &mut S, work: &mut Work, u: Spot, w: Spot)
@@ -110,19 +24,82 @@ fn swap_words<S: Store>(store: &mut S, work: &mut Work, u: Spot, w: Spot)
     write_at(store, work, w, a);
 }
 
-// swap, met either way
-pub(crate) fn exchange<S: Store>(
-    store: &mut S,
-    work: &mut Work,
-    l: u16,
-    x: Place,
-    y: Place,
-) -> Result<(), Refusal>
-    ensures { Made result work.old (S.Store.book store.old) work.new (S.Store.book store.new) (λ s. exchanges l s x y) }
-{
-    let u = find(work, x)?;
-    let w = find(work, y)?;
-    swap_words(store, work, u, w);
-    pass(work, l);
-    Ok(())
+impl Due {
+    // new
+    #[tactic(auto, using(evaluator::proofs::Chains::chained), unfolding(crate::specs::Acting::allocates))]
+    pub(crate) fn allocate<S: Store>(self, store: &mut S, work: &mut Work) -> Result<(), Refusal>
+        ensures { Made result work.old (S.Store.book store.old) work.new (S.Store.book store.new) (λ s. allocates self s) }
+    {
+        let u = find(work, self.line.x)?;
+        if read_at(store, work, u) != 0 {
+            return Err(Refusal::NotClear);
+        }
+        let head = word_at(store, 0);
+        if head == 0 {
+            return Err(Refusal::NoFree);
+        }
+        let k = record_named(store, head).ok_or(Refusal::FreeUnfit)?;
+        if lies_in(u, k) || !is_clear(store, 7, k) {
+            return Err(Refusal::FreeUnfit);
+        }
+        unlink(store, k);
+        settle(store, work, self.number, u, k as i32);
+        Ok(())
+    }
+
+    // delete
+    #[tactic(auto, using(evaluator::proofs::Chains::chained), unfolding(crate::specs::Acting::releases))]
+    pub(crate) fn release<S: Store>(self, store: &mut S, work: &mut Work) -> Result<(), Refusal>
+        ensures { Made result work.old (S.Store.book store.old) work.new (S.Store.book store.new) (λ s. releases self s) }
+    {
+        let u = find(work, self.line.x)?;
+        let k = record_named(store, read_at(store, work, u)).ok_or(Refusal::NoRecord)?;
+        if !is_clear(store, 8, k) {
+            return Err(Refusal::NotClear);
+        }
+        link(store, k);
+        settle(store, work, self.number, u, 0);
+        Ok(())
+    }
+
+    // copy
+    #[tactic(auto, using(evaluator::proofs::Chains::chained), unfolding(crate::specs::Acting::duplicates))]
+    pub(crate) fn duplicate<S: Store>(self, store: &mut S, work: &mut Work) -> Result<(), Refusal>
+        ensures { Made result work.old (S.Store.book store.old) work.new (S.Store.book store.new) (λ s. duplicates self s) }
+    {
+        let u = find(work, self.line.x)?;
+        let w = find(work, self.line.y)?;
+        if read_at(store, work, w) != 0 {
+            return Err(Refusal::NotClear);
+        }
+        let v = read_at(store, work, u);
+        settle(store, work, self.number, w, v);
+        Ok(())
+    }
+
+    // uncopy
+    #[tactic(auto, using(evaluator::proofs::Chains::chained), unfolding(crate::specs::Acting::erases))]
+    pub(crate) fn erase<S: Store>(self, store: &mut S, work: &mut Work) -> Result<(), Refusal>
+        ensures { Made result work.old (S.Store.book store.old) work.new (S.Store.book store.new) (λ s. erases self s) }
+    {
+        let u = find(work, self.line.x)?;
+        let w = find(work, self.line.y)?;
+        if read_at(store, work, w) != read_at(store, work, u) {
+            return Err(Refusal::NotClear);
+        }
+        settle(store, work, self.number, w, 0);
+        Ok(())
+    }
+
+    // swap
+    #[tactic(auto, using(evaluator::proofs::Chains::chained), unfolding(crate::specs::Acting::exchanges))]
+    pub(crate) fn exchange<S: Store>(self, store: &mut S, work: &mut Work) -> Result<(), Refusal>
+        ensures { Made result work.old (S.Store.book store.old) work.new (S.Store.book store.new) (λ s. exchanges self s) }
+    {
+        let u = find(work, self.line.x)?;
+        let w = find(work, self.line.y)?;
+        swap_words(store, work, u, w);
+        pass(work, self.number);
+        Ok(())
+    }
 }

@@ -10,4 +10,4 @@ mod turns;
 pub use parts::Work;
 pub use starts::{start, turn_round};
 pub use table::{entry, line_at};
-pub use turns::{finished, turn};
+pub use turns::{finished, met, turn};

@@ -1,9 +1,14 @@
-use Rattle.std.proofs.Common.{sym, ◌∙◌}
-use Rattle.machine.proofs.Clears.{clear_more, clear_not}
+use Rattle.std.proofs.Common.{refl, ◌∙◌, arith, rules}
+use borrow.Author.Tests.{tests}
+use Rattle.std.proofs.lemmas.Iterator.{YieldsList-from_range}
+use Rattle.std.proofs.lemmas.Iterator.Search.{all_from_yields_List}
+use Rattle.rules.specs.Book.{record_at}
+use Rattle.machine.proofs.Clears.{is_zero, clear_is}
 use Rattle.machine.proofs.records.is_clear.Goals as goal
 
-pub returns-then-not-is_zero : goal.returns-then-not-is_zero
-returns-then-not-is_zero g c = sym (clear_not _ c.args.n c.loop-i.i c.args.k c.loop-i-test.true (sym c.is_zero.ensures ∙ c.if-not-is_zero.true))
-
-pub loop-i-preserved : goal.loop-i-preserved
-loop-i-preserved g c = clear_more _ c.loop-i.i c.args.k c.loop-i.invariant (sym c.is_zero.ensures ∙ c.if-not-is_zero.false)
+pub returns : goal.returns
+returns g c =
+    let b = g.S.Store.book c.args.store.now in
+    let n = c.args.n in
+    let items = YieldsList-from_range 0 n n refl (omega arith) in
+    all_from_yields_List (is_zero b (record_at c.args.k)) _ _ c.all.result c.all.ensures.ran items (λ x t q k. search (rules, tests)) ∙ clear_is b n c.args.k
