@@ -8,6 +8,7 @@ mod measures;
 mod scripts;
 
 use measures::{Job, on_kinds, wanted};
+use rules::{Line, Term};
 use script::program::Program;
 use scripts::{arithmetic, arithmetic_terms, refused, walk, walk_terms};
 use std::{env, io};
@@ -31,10 +32,8 @@ struct Choice {
 
 // How many times as long a text says: once where it says nothing.
 fn read_times(text: Option<String>) -> i32 {
-    match text {
-        Some(number) => i32::from(number.as_str().parse::<u16>().unwrap_or(1)),
-        None => 1,
-    }
+    text.and_then(|number| number.as_str().parse::<u16>().ok())
+        .map_or(1, i32::from)
 }
 
 fn read_choice(rt: &HostRuntime) -> io::Result<Choice> {
@@ -46,57 +45,29 @@ fn read_choice(rt: &HostRuntime) -> io::Result<Choice> {
     Ok(Choice { times, job, kind })
 }
 
-fn measure_arithmetic(rt: &HostRuntime, rounds: i32, kind: &Option<String>) -> io::Result<()> {
-    let Ok(program) = Program::build(&arithmetic(), &arithmetic_terms(rounds)) else {
-        return Ok(());
-    };
-    let job = Job {
-        name: "arithmetic",
+// A script and how many words its book has, if the script is accepted.
+fn job(name: &'static str, lines: &[Line], terms: &[Term], size: usize) -> Option<Job> {
+    let program = Program::build(lines, terms).ok()?;
+    Some(Job {
+        name,
         program,
-        size: SMALL,
-        both_ways: true,
-    };
-    on_kinds(rt, &job, kind)
-}
-
-fn measure_walk(rt: &HostRuntime, rounds: i32, kind: &Option<String>) -> io::Result<()> {
-    let Ok(program) = Program::build(&walk(), &walk_terms(rounds)) else {
-        return Ok(());
-    };
-    let job = Job {
-        name: "walk",
-        program,
-        size: LARGE,
-        both_ways: true,
-    };
-    on_kinds(rt, &job, kind)
-}
-
-fn measure_refused(rt: &HostRuntime, rounds: i32, kind: &Option<String>) -> io::Result<()> {
-    let Ok(program) = Program::build(&refused(), &arithmetic_terms(rounds)) else {
-        return Ok(());
-    };
-    let job = Job {
-        name: "refused",
-        program,
-        size: SMALL,
-        both_ways: false,
-    };
-    on_kinds(rt, &job, kind)
+        size,
+    })
 }
 
 // The chosen script, or all three.
 fn measure_chosen(rt: &HostRuntime, choice: &Choice) -> io::Result<()> {
-    let loops = ARITHMETIC_ROUNDS.saturating_mul(choice.times);
-    let walks = WALK_ROUNDS.saturating_mul(choice.times);
-    if wanted(&choice.job, "arithmetic") {
-        measure_arithmetic(rt, loops, &choice.kind)?;
-    }
-    if wanted(&choice.job, "walk") {
-        measure_walk(rt, walks, &choice.kind)?;
-    }
-    if wanted(&choice.job, "refused") {
-        measure_refused(rt, loops, &choice.kind)?;
+    let loops = arithmetic_terms(ARITHMETIC_ROUNDS.saturating_mul(choice.times));
+    let walks = walk_terms(WALK_ROUNDS.saturating_mul(choice.times));
+    let jobs = [
+        job("arithmetic", &arithmetic(), &loops, SMALL),
+        job("walk", &walk(), &walks, LARGE),
+        job("refused", &refused(), &loops, SMALL),
+    ];
+    for job in jobs.iter().flatten() {
+        if wanted(&choice.job, job.name) {
+            on_kinds(rt, job, &choice.kind)?;
+        }
     }
     Ok(())
 }

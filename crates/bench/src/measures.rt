@@ -6,13 +6,12 @@ use std::io;
 use std::time::Instant;
 use store::{Bytes, Moves, Store, Words};
 
-// A script to measure, how many words its book has, and whether it is run backward too.
+// A script to measure, and how many words its book has.
 #[derive(Drop)]
 pub(crate) struct Job {
     pub(crate) name: &'static str,
     pub(crate) program: Program,
     pub(crate) size: usize,
-    pub(crate) both_ways: bool,
 }
 
 // The factor in m3.
@@ -25,10 +24,8 @@ const SHOWN: [u32; 6] = [1, 2, 4, 5, 81, 82];
 fn open<S: Store>(store: &mut S) {
     let _ = store.write(3, FACTOR);
     let _ = store.write(65, 1);
-    let mut w = 85u32;
-    for next in 2..61i32 {
+    for (w, next) in (85..).step_by(8).zip(2..61) {
         let _ = store.write(w, next);
-        w = w.saturating_add(8);
     }
 }
 
@@ -73,7 +70,7 @@ fn leg<S: Store>(
     kind: &str,
     store: &mut S,
     forward: bool,
-) -> io::Result<()> {
+) -> io::Result<Ending> {
     let name = job.name;
     let way = if forward { "forward" } else { "backward" };
     let start = Instant::now(rt)?;
@@ -85,9 +82,11 @@ fn leg<S: Store>(
     eprintln!(rt;
         "{name} on {kind}, {way}: {} steps a second",
         rate(steps, nanos)
-    )
+    )?;
+    Ok(ending)
 }
 
+// Runs the script forward, and backward too if it finishes.
 fn measure<S: Store + Drop>(
     rt: &HostRuntime,
     job: &Job,
@@ -95,8 +94,7 @@ fn measure<S: Store + Drop>(
     mut store: S,
 ) -> io::Result<()> {
     open(&mut store);
-    leg(rt, job, kind, &mut store, true)?;
-    if job.both_ways {
+    if let Ending::Finished(_) = leg(rt, job, kind, &mut store, true)? {
         leg(rt, job, kind, &mut store, false)?;
     }
     Ok(())
@@ -124,10 +122,7 @@ fn on_moves(rt: &HostRuntime, job: &Job) -> io::Result<()> {
 
 // Whether a name is the chosen one; all are where none is chosen.
 pub(crate) fn wanted(chosen: &Option<String>, name: &str) -> bool {
-    match chosen {
-        Some(text) => text.as_str() == name,
-        None => true,
-    }
+    chosen.as_ref().is_none_or(|text| text.as_str() == name)
 }
 
 // A job on the chosen kind of store, or on all three.

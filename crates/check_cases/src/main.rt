@@ -20,16 +20,26 @@ fn verdict(lines: &[Line], terms: &[Term]) -> (u32, u32) {
 
 // Says how a case went; true where the verdict is the expected one.
 fn judge(rt: &HostRuntime, name: &str, case: &Case) -> anyhow::Result<bool> {
-    let (refusal, line) = verdict(case.lines.as_slice(), case.terms.as_slice());
-    let right = refusal == case.refusal && line == case.line;
-    if right {
+    let found = verdict(case.lines.as_slice(), case.terms.as_slice());
+    let (refusal, line) = found;
+    if found == case.verdict {
         println!(rt; "{name}: ({refusal}, {line})")?;
-    } else {
-        let expected = case.refusal;
-        let at = case.line;
-        println!(rt; "{name}: WRONG, ({refusal}, {line}) where ({expected}, {at}) is expected")?;
+        return Ok(true);
     }
-    Ok(right)
+    let (expected, at) = case.verdict;
+    println!(rt; "{name}: WRONG, ({refusal}, {line}) where ({expected}, {at}) is expected")?;
+    Ok(false)
+}
+
+// The same for a text, which is wrong too where it is no case.
+fn entry(rt: &HostRuntime, text: &str) -> anyhow::Result<bool> {
+    match read_case(rt.alloc(), text)? {
+        Some((name, case)) => judge(rt, name, &case),
+        None => {
+            println!(rt; "WRONG: this is no case: {text}")?;
+            Ok(false)
+        }
+    }
 }
 
 fn main(rt: HostRuntime) -> anyhow::Result<()> {
@@ -41,14 +51,7 @@ fn main(rt: HostRuntime) -> anyhow::Result<()> {
             continue;
         }
         cases = cases.saturating_add(1);
-        let right = match read_case(rt.alloc(), text.as_str())? {
-            Some((name, case)) => judge(&rt, name, &case)?,
-            None => {
-                println!(rt; "WRONG: this is no case: {text}")?;
-                false
-            }
-        };
-        if !right {
+        if !entry(&rt, text.as_str())? {
             wrong = wrong.saturating_add(1);
         }
     }

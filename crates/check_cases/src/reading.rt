@@ -4,11 +4,10 @@ use rules::{Line, Place, Term};
 use session::place_of;
 use std::alloc::{AllocError, Global};
 
-// Two tables, and the verdict that is expected of them.
+// Two tables, and the verdict that is expected of them: a refusal or 0, and a line.
 #[derive(Drop)]
 pub struct Case {
-    pub refusal: u32,
-    pub line: u32,
+    pub verdict: (u32, u32),
     pub lines: Vec<Line>,
     pub terms: Vec<Term>,
 }
@@ -18,130 +17,89 @@ fn place(word: &str) -> Option<Place> {
         return Some(Place::None);
     }
     let (letter, digits) = word.split_at_checked(1)?;
-    let Ok(i) = digits.parse::<u8>() else {
-        return None;
-    };
-    place_of(*letter.as_bytes().first()?, i)
-}
-
-// The word before the first blank, and the rest.
-fn cut(text: &str) -> (&str, &str) {
-    match text.split_once(' ') {
-        Some((word, rest)) => (word, rest),
-        None => (text, ""),
-    }
-}
-
-fn small(word: &str) -> Option<u8> {
-    word.parse::<u8>().ok()
-}
-
-fn medium(word: &str) -> Option<u16> {
-    word.parse::<u16>().ok()
+    place_of(*letter.as_bytes().first()?, digits.parse().ok()?)
 }
 
 fn line(text: &str) -> Option<Line> {
-    let (kind, text) = cut(text);
-    let (x, text) = cut(text);
-    let (y, text) = cut(text);
-    let (q, text) = cut(text);
-    let (first, count) = cut(text);
+    let mut words = text.splitn(6, ' ');
     Some(Line {
-        kind: small(kind)?,
-        x: place(x)?,
-        y: place(y)?,
-        q: small(q)?,
-        first: medium(first)?,
-        count: medium(count)?,
+        kind: words.next()?.parse().ok()?,
+        x: place(words.next()?)?,
+        y: place(words.next()?)?,
+        q: words.next()?.parse().ok()?,
+        first: words.next()?.parse().ok()?,
+        count: words.next()?.parse().ok()?,
     })
 }
 
 fn term(text: &str) -> Option<Term> {
-    let (kind, text) = cut(text);
-    let (number, text) = cut(text);
-    let (first, second) = cut(text);
-    let Ok(number) = number.parse::<i32>() else {
-        return None;
-    };
+    let mut words = text.splitn(4, ' ');
     Some(Term {
-        kind: small(kind)?,
-        number,
-        first: place(first)?,
-        second: place(second)?,
+        kind: words.next()?.parse().ok()?,
+        number: words.next()?.parse().ok()?,
+        first: place(words.next()?)?,
+        second: place(words.next()?)?,
     })
 }
 
 // How often an item stands, and the item.
 fn repeated(item: &str) -> (u16, &str) {
     match item.split_once('*') {
-        Some((times, rest)) => (medium(times).unwrap_or(0), rest),
+        Some((times, rest)) => (times.parse().unwrap_or(0), rest),
         None => (1, item),
     }
 }
 
-fn read_lines(heap: Global, text: &str) -> Result<Option<Vec<Line>>, AllocError> {
-    let mut lines = Vec::new(heap);
-    for item in text.split(';') {
-        let (times, words) = repeated(item.trim());
+// The items of a table, each as often as it stands.
+fn table<T: Copy, F: Fn(&str) -> Option<T>>(
+    heap: Global,
+    text: &str,
+    read: F,
+) -> Result<Option<Vec<T>>, AllocError>
+    requires { F.IsAlwaysCallable read }
+{
+    let mut items = Vec::new(heap);
+    for part in text.split(';') {
+        let (times, words) = repeated(part.trim());
         if words.is_empty() {
             continue;
         }
-        let Some(one) = line(words) else {
+        let Some(item) = read(words) else {
             return Ok(None);
         };
         for _ in 0..times {
-            lines.push(one)?;
+            items.push(item)?;
         }
     }
-    Ok(Some(lines))
+    Ok(Some(items))
 }
 
-fn read_terms(heap: Global, text: &str) -> Result<Option<Vec<Term>>, AllocError> {
-    let mut terms = Vec::new(heap);
-    for item in text.split(';') {
-        let (times, words) = repeated(item.trim());
-        if words.is_empty() {
-            continue;
-        }
-        let Some(one) = term(words) else {
-            return Ok(None);
-        };
-        for _ in 0..times {
-            terms.push(one)?;
-        }
-    }
-    Ok(Some(terms))
+// The name of a case, the verdict that is expected, and the texts of the two tables.
+fn parts(text: &str) -> Option<(&str, (u32, u32), &str, &str)> {
+    let (head, tables) = text.split_once('|')?;
+    let (lines, terms) = tables.split_once('|')?;
+    let mut words = head.trim().splitn(3, ' ');
+    let name = words.next()?;
+    let refusal = words.next()?.parse().ok()?;
+    let line = words.next()?.parse().ok()?;
+    Some((name, (refusal, line), lines, terms))
 }
 
 // The name of a case and the case, if the text is one.
 pub(crate) fn read_case(heap: Global, text: &str) -> Result<Option<(&str, Case)>, AllocError> {
-    let Some((head, tables)) = text.split_once('|') else {
+    let Some((name, verdict, lines, terms)) = parts(text) else {
         return Ok(None);
     };
-    let Some((lines, terms)) = tables.split_once('|') else {
+    let Some(lines) = table(heap, lines, line)? else {
         return Ok(None);
     };
-    let (name, expected) = cut(head.trim());
-    let (refusal, line) = cut(expected);
-    let Ok(refusal) = refusal.parse::<u32>() else {
+    let Some(terms) = table(heap, terms, term)? else {
         return Ok(None);
     };
-    let Ok(line) = line.parse::<u32>() else {
-        return Ok(None);
+    let case = Case {
+        verdict,
+        lines,
+        terms,
     };
-    let Some(lines) = read_lines(heap, lines)? else {
-        return Ok(None);
-    };
-    let Some(terms) = read_terms(heap, terms)? else {
-        return Ok(None);
-    };
-    Ok(Some((
-        name,
-        Case {
-            refusal,
-            line,
-            lines,
-            terms,
-        },
-    )))
+    Ok(Some((name, case)))
 }

@@ -36,19 +36,16 @@ fn word(name: &str) -> Option<usize> {
 
 fn set_word(book: &mut Vec<i32>, text: &str) -> Option<()> {
     let (name, number) = text.split_once("=")?;
-    let at = word(name)?;
-    let value = number.parse::<i32>().ok()?;
-    let slot = book.get_mut(at)?;
-    *slot = value;
+    *book.get_mut(word(name)?)? = number.parse().ok()?;
     Some(())
 }
 
-// Sets words of a book: `m1=7 f3@1=2`.
-pub(crate) fn set_words(book: &mut Vec<i32>, text: &str) -> Option<()> {
+// A book after words are set: `m1=7 f3@1=2`.
+pub(crate) fn with_words(mut book: Vec<i32>, text: &str) -> Option<Vec<i32>> {
     for change in text.split_whitespace() {
-        set_word(book, change)?;
+        set_word(&mut book, change)?;
     }
-    Some(())
+    Some(book)
 }
 
 fn zeros(heap: Global, records: usize) -> Option<Vec<i32>> {
@@ -57,21 +54,17 @@ fn zeros(heap: Global, records: usize) -> Option<Vec<i32>> {
 }
 
 fn standard(heap: Global) -> Option<Vec<i32>> {
-    let mut book = zeros(heap, 2)?;
-    set_words(&mut book, "head=1 f3@1=2")?;
-    Some(book)
+    with_words(zeros(heap, 2)?, "head=1 f3@1=2")
 }
 
 // The book before a run.
 pub(crate) fn opening(heap: Global, text: &str) -> Option<Vec<i32>> {
     let (first, rest) = cut(text);
-    if let Some(records) = first.strip_prefix("records=") {
-        let count = usize::from(records.parse::<u16>().ok()?);
-        let mut book = zeros(heap, count)?;
-        set_words(&mut book, rest)?;
-        return Some(book);
+    match first.strip_prefix("records=") {
+        Some(records) => {
+            let records = usize::from(records.parse::<u16>().ok()?);
+            with_words(zeros(heap, records)?, rest)
+        }
+        None => with_words(standard(heap)?, text),
     }
-    let mut book = standard(heap)?;
-    set_words(&mut book, text)?;
-    Some(book)
 }

@@ -1,15 +1,22 @@
 // A case of the table: a script, a run, the book before it, and by the rules the answer and the book after it.
 
-use crate::books::{opening, set_words};
+use crate::books::{opening, with_words};
 use crate::scripts::{Script, cut, read_script};
 use std::alloc::Global;
+use std::fmt;
 
 // A refusal or 0, a line, and a number of steps.
-#[derive(Clone, Copy)]
+#[derive(Clone, Copy, PartialEq)]
 pub(crate) struct Answer {
     pub(crate) refusal: u32,
     pub(crate) line: u32,
     pub(crate) steps: u32,
+}
+
+impl fmt::Display for Answer {
+    fn fmt<W: fmt::Write>(&self, f: &mut fmt::Formatter<W>) -> fmt::Result {
+        write!(f, "({}, {}, {})", self.refusal, self.line, self.steps)
+    }
 }
 
 // Which method, which way, with what budget.
@@ -47,9 +54,9 @@ fn direction(text: &str) -> Option<bool> {
 fn read_run(text: &str) -> Option<Run> {
     let (method, way, budget) = three(text);
     Some(Run {
-        method: method.parse::<u32>().ok()?,
+        method: method.parse().ok()?,
         forward: direction(way)?,
-        budget: budget.parse::<u32>().ok()?,
+        budget: budget.parse().ok()?,
     })
 }
 
@@ -57,38 +64,21 @@ fn read_run(text: &str) -> Option<Run> {
 fn read_answer(text: &str) -> Option<Answer> {
     let (refusal, line, steps) = three(text);
     Some(Answer {
-        refusal: refusal.parse::<u32>().ok()?,
-        line: line.parse::<u32>().ok()?,
-        steps: steps.parse::<u32>().ok()?,
+        refusal: refusal.parse().ok()?,
+        line: line.parse().ok()?,
+        steps: steps.parse().ok()?,
     })
-}
-
-// The field before the next `|`, and what comes after it.
-pub(crate) fn field(text: &str) -> (&str, &str) {
-    match text.split_once("|") {
-        Some((first, rest)) => (first.trim(), rest),
-        None => (text.trim(), ""),
-    }
-}
-
-fn book_after(before: &Vec<i32>, text: &str) -> Option<Vec<i32>> {
-    let mut book = before.clone().ok()?;
-    set_words(&mut book, text)?;
-    Some(book)
 }
 
 // `script | run | book before | answer | words that are changed after`.
 pub(crate) fn read_case(heap: Global, text: &str) -> Option<Case> {
-    let (script_text, text) = field(text);
-    let (run_text, text) = field(text);
-    let (before_text, text) = field(text);
-    let (answer_text, text) = field(text);
-    let (after_text, _) = field(text);
-    let script = read_script(heap, script_text)?;
-    let run = read_run(run_text)?;
-    let before = opening(heap, before_text)?;
-    let answer = read_answer(answer_text)?;
-    let after = book_after(&before, after_text)?;
+    let mut fields = text.split('|').map(|field| field.trim());
+    let script = read_script(heap, fields.next()?)?;
+    let run = read_run(fields.next()?)?;
+    let before = opening(heap, fields.next()?)?;
+    let answer = read_answer(fields.next()?)?;
+    let changes = fields.next().unwrap_or("");
+    let after = with_words(before.clone().ok()?, changes)?;
     Some(Case {
         script,
         run,

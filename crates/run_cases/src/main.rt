@@ -10,7 +10,7 @@ mod scripts;
 mod trials;
 mod words;
 
-use cases::{Answer, Case, field, read_case};
+use cases::{Answer, Case, read_case};
 use script::program::Program;
 use std::io;
 use trials::{Found, on_bytes, on_moves, on_words};
@@ -22,18 +22,20 @@ struct Tally {
     wrong: u32,
 }
 
-fn same(a: Answer, b: Answer) -> bool {
-    a.refusal == b.refusal && a.line == b.line && a.steps == b.steps
+impl Tally {
+    fn count(&mut self, right: bool) {
+        self.cases = self.cases.saturating_add(1);
+        if !right {
+            self.wrong = self.wrong.saturating_add(1);
+        }
+    }
 }
 
 // Whether a store gave what the table says; if not, says what it gave.
 fn judge(rt: &HostRuntime, name: &str, kind: &str, want: Answer, found: Found) -> io::Result<bool> {
     let is = found.answer;
-    if !same(want, is) {
-        println!(rt;
-            "WRONG {name} on {kind}: expected ({}, {}, {}), found ({}, {}, {})",
-            want.refusal, want.line, want.steps, is.refusal, is.line, is.steps
-        )?;
+    if is != want {
+        println!(rt; "WRONG {name} on {kind}: expected {want}, found {is}")?;
         return Ok(false);
     }
     if let Some(w) = found.stray {
@@ -45,13 +47,15 @@ fn judge(rt: &HostRuntime, name: &str, kind: &str, want: Answer, found: Found) -
 
 // Runs a case on the three kinds of store, and tells whether all gave what the table says.
 fn try_case(rt: &HostRuntime, name: &str, case: &Case, program: &Program) -> io::Result<bool> {
-    let want = case.answer;
-    let words = on_words(rt.alloc(), program, case)?;
-    let bytes = on_bytes(rt.alloc(), program, case)?;
-    let moves = on_moves(rt.alloc(), program, case)?;
-    let mut right = judge(rt, name, "words", want, words)?;
-    right = judge(rt, name, "bytes", want, bytes)? && right;
-    right = judge(rt, name, "moves", want, moves)? && right;
+    let found = [
+        ("words", on_words(rt.alloc(), program, case)?),
+        ("bytes", on_bytes(rt.alloc(), program, case)?),
+        ("moves", on_moves(rt.alloc(), program, case)?),
+    ];
+    let mut right = true;
+    for (kind, found) in found {
+        right &= judge(rt, name, kind, case.answer, found)?;
+    }
     Ok(right)
 }
 
@@ -74,17 +78,15 @@ fn tell(rt: &HostRuntime, name: &str, case: &Case) -> io::Result<bool> {
     let right = build_and_try(rt, name, case)?;
     if right {
         let answer = case.answer;
-        println!(rt;
-            "ok {name} ({}, {}, {})",
-            answer.refusal, answer.line, answer.steps
-        )?;
+        println!(rt; "ok {name} {answer}")?;
     }
     Ok(right)
 }
 
 // A line of the table.
 fn entry(rt: &HostRuntime, text: &str) -> io::Result<bool> {
-    let (name, rest) = field(text);
+    let (name, rest) = text.split_once('|').unwrap_or((text, ""));
+    let name = name.trim();
     match read_case(rt.alloc(), rest) {
         Some(case) => tell(rt, name, &case),
         None => {
@@ -98,23 +100,10 @@ fn is_entry(text: &str) -> bool {
     !text.is_empty() && !text.starts_with("#")
 }
 
-fn counted(tally: Tally, right: bool) -> Tally {
-    let cases = tally.cases.saturating_add(1);
-    let wrong = if right {
-        tally.wrong
-    } else {
-        tally.wrong.saturating_add(1)
-    };
-    Tally { cases, wrong }
-}
-
 fn all(rt: &HostRuntime, table: &str) -> io::Result<Tally> {
     let mut tally = Tally { cases: 0, wrong: 0 };
-    for text in table.lines() {
-        if is_entry(text) {
-            let right = entry(rt, text)?;
-            tally = counted(tally, right);
-        }
+    for text in table.lines().filter(|text| is_entry(text)) {
+        tally.count(entry(rt, text)?);
     }
     Ok(tally)
 }

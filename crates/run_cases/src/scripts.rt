@@ -13,10 +13,8 @@ pub(crate) struct Script {
 
 // The first word of a text, and what comes after it.
 pub(crate) fn cut(text: &str) -> (&str, &str) {
-    match text.split_once(" ") {
-        Some((word, rest)) => (word, rest.trim()),
-        None => (text, ""),
-    }
+    let (word, rest) = text.split_once(' ').unwrap_or((text, ""));
+    (word, rest.trim())
 }
 
 // A place, or none for no text.
@@ -94,12 +92,10 @@ fn line(text: &str, terms: &mut Vec<Term>) -> Option<Line> {
 // How often a statement is to stand, and the statement.
 fn repeated(text: &str) -> (u16, &str) {
     let (first, rest) = cut(text);
-    if let Some(number) = first.strip_suffix("x") {
-        if let Ok(times) = number.parse::<u16>() {
-            return (times, rest);
-        }
+    match first.strip_suffix("x").and_then(|number| number.parse().ok()) {
+        Some(times) => (times, rest),
+        None => (1, text),
     }
-    (1, text)
 }
 
 fn add_statement(script: &mut Script, text: &str) -> Option<()> {

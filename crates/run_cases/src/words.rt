@@ -4,9 +4,8 @@ use rules::{Kind, Place, Term};
 use session::place_of;
 
 pub(crate) fn place(text: &str) -> Option<Place> {
-    let letter = text.as_bytes().first().copied()?;
-    let index = text.get(1..)?.parse::<u8>().ok()?;
-    place_of(letter, index)
+    let letter = *text.as_bytes().first()?;
+    place_of(letter, text.get(1..)?.parse().ok()?)
 }
 
 // An operator. `|` and `||` are written `or` and `either`, since `|` ends a field of the table.
@@ -69,8 +68,16 @@ pub(crate) fn term(text: &str) -> Option<Term> {
     naming(text)
 }
 
-fn plain_kind(text: &str) -> Option<Kind> {
+pub(crate) fn kind(text: &str) -> Option<Kind> {
     match text {
+        "begin" => Some(Kind::Begin),
+        "end" => Some(Kind::End),
+        "if" => Some(Kind::If),
+        "fi" => Some(Kind::Fi),
+        "from" => Some(Kind::From),
+        "until" => Some(Kind::Until),
+        "local" => Some(Kind::Local),
+        "delocal" => Some(Kind::Delocal),
         "add" => Some(Kind::Add),
         "subtract" => Some(Kind::Subtract),
         "new" => Some(Kind::New),
@@ -82,19 +89,5 @@ fn plain_kind(text: &str) -> Option<Kind> {
         "call" => Some(Kind::Call),
         "uncall" => Some(Kind::Uncall),
         _ => None,
-    }
-}
-
-pub(crate) fn kind(text: &str) -> Option<Kind> {
-    match text {
-        "begin" => Some(Kind::Begin),
-        "end" => Some(Kind::End),
-        "if" => Some(Kind::If),
-        "fi" => Some(Kind::Fi),
-        "from" => Some(Kind::From),
-        "until" => Some(Kind::Until),
-        "local" => Some(Kind::Local),
-        "delocal" => Some(Kind::Delocal),
-        _ => plain_kind(text),
     }
 }
