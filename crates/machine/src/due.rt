@@ -1,6 +1,6 @@
 // The line whose turn it is.
 
-ghost use Rattle.std.specs.Prelude.{◌≡◌, ◌<◌, [], length, IfOk};
+ghost use Rattle.std.specs.Prelude.{[]};
 ghost use Rattle.script.specs.Programs.{script_of};
 ghost use Rattle.work.specs.View.{state};
 ghost use Rattle.machine.specs.Acting.{IsDue};
@@ -18,8 +18,7 @@ pub(crate) struct Due {
 }
 
 pub(crate) fn line_due(work: &Work, program: &Program) -> Result<Due, Refusal>
-    ensures due { IsDue (script_of program.now) (state work.now []) result }
-    ensures there { IfOk result (λ d. d.number < length (script_of program.now).lines) }
+    ensures { IsDue (script_of program.now) (state work.now []) result }
 {
     let at = turn(work);
     let line = line_at(program, at);
