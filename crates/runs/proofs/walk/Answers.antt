@@ -1,35 +1,31 @@
-use Rattle.std.proofs.Common.{◌≡◌, ◌+◌, ◌-◌, ◌<◌, ◌≤◌, sym, ap, ◌∙◌, arith}
-use Rattle.std.proofs.lemmas.Bool.{leb-true, leb-false}
+use Rattle.std.proofs.Common.{◌≡◌, ◌+◌, ◌-◌, Err, sym, ap, ◌∙◌, arith}
 use Rattle.reversible.specs.Machine.{walk}
 use Rattle.rules.specs.Run.{machine}
 use Rattle.script.specs.Programs.{script_of}
 use Rattle.work.specs.View.{state}
-use Rattle.runs.specs.Walks.{halt, halted}
-use Rattle.runs.proofs.Walking.{ends, spends, stops, goes_on}
+use Rattle.runs.specs.Walks.{stopped_at, halt, halted}
+use Rattle.runs.proofs.Walking.{ends, stops, goes_on}
 use Rattle.runs.proofs.walk.Goals as goal
 
-pub returns-then-finished : goal.returns-then-finished
-returns-then-finished g c =
-    sym (ends _ _ (c.args.budget - c.loop-budget.steps) _ (sym c.finished.ensures ∙ c.if-finished.true)) ∙ c.loop-budget.invariant.1
+pub returns-in-Err : goal.returns-in-Err
+returns-in-Err g c =
+    let (refused, same) = c.in-Err.ensures in
+    let n = c.loop-work.steps in
+    ap (λ r. halt (Err r) (state c.step.new.work (g.S.Store.book c.step.new.store))) c.stopped_at-in-Err.ensures
+    ∙ ap (λ s. halt (Err (stopped_at c.in-Err.refusal n s)) s) same
+    ∙ sym (stops _ _ (c.args.budget - n) _ _ (sym c.finished.ensures ∙ c.loop-work-test.true) (omega arith) refused)
+    ∙ c.loop-work.invariant.1
 
-pub returns-then-is_spent : goal.returns-then-is_spent
-returns-then-is_spent g c =
-    let h : c.args.budget ≤ c.loop-budget.steps = leb-true _ _ (sym c.is_spent.ensures ∙ c.if-is_spent.true) in
-    sym (spends _ _ (c.args.budget - c.loop-budget.steps) _ (sym c.finished.ensures ∙ c.if-finished.false) (omega arith)) ∙ c.loop-budget.invariant.1
-
-pub returns-in_default : goal.returns-in_default
-returns-in_default g c =
-    let a = c.in_default.ensures in
-    let h : c.loop-budget.steps < c.args.budget = leb-false _ _ (sym c.is_spent.ensures ∙ c.if-is_spent.false) in
-    ap (λ r. halt r c.loop-budget.steps (state c.step-answer.new.work (g.S.Store.book c.step-answer.new.store))) c.in_default.is
-    ∙ ap (halt _ c.loop-budget.steps) a.1
-    ∙ sym (stops _ _ (c.args.budget - c.loop-budget.steps) _ _ (sym c.finished.ensures ∙ c.if-finished.false) (omega arith) a.0) ∙ c.loop-budget.invariant.1
-
-pub loop-budget-preserved : goal.loop-budget-preserved
-loop-budget-preserved g c =
-    let h : c.loop-budget.steps < c.args.budget = leb-false _ _ (sym c.is_spent.ensures ∙ c.if-is_spent.false) in
-    let q : c.args.budget - (c.loop-budget.steps + 1) ≡ c.args.budget - c.loop-budget.steps - 1 = omega arith in (
+pub loop-work-preserved : goal.loop-work-preserved
+loop-work-preserved g c =
+    let n = c.loop-work.steps in
+    let t = state c.step.new.work (g.S.Store.book c.step.new.store) in
+    let left : c.args.budget - (n + 1) ≡ c.args.budget - n - 1 = omega arith in (
       omega arith,
-      ap (λ n. halted (c.loop-budget.steps + 1) (walk (machine (script_of c.args.program.now)) n (state c.step-answer.new.work (g.S.Store.book c.step-answer.new.store)))) q
-          ∙ sym (goes_on _ _ (c.args.budget - c.loop-budget.steps) _ _ (omega arith) c.in-Ok.ensures) ∙ c.loop-budget.invariant.1,
+      ap (λ m. halted (n + 1) (walk (machine (script_of c.args.program.now)) m t)) left
+          ∙ sym (goes_on _ _ (c.args.budget - n) _ t (omega arith) c.in_default.ensures)
+          ∙ c.loop-work.invariant.1,
     )
+
+pub returns : goal.returns
+returns g c = sym (ends _ _ (c.args.budget - c.loop-work.steps) _ (sym c.finished.ensures ∙ c.loop-work-test.false)) ∙ c.loop-work.invariant.1
