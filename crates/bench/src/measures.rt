@@ -1,6 +1,6 @@
 // Runs of a script on the three kinds of store, with what they gave and how fast they were.
 
-use runs::{Ending, run};
+use runs::{Stopped, numbers, run};
 use script::program::Program;
 use std::io;
 use std::time::Instant;
@@ -26,18 +26,6 @@ fn open<S: Store>(store: &mut S) {
     let _ = store.write(65, 1);
     for (w, next) in (85..).step_by(8).zip(2..61) {
         let _ = store.write(w, next);
-    }
-}
-
-// The refusal or 0, the line and the steps.
-fn numbers(ending: Ending) -> (u32, u32, u32) {
-    match ending {
-        Ending::Finished(steps) => (0, 0, steps),
-        Ending::Refused {
-            refusal,
-            line,
-            steps,
-        } => (refusal.code(), line, steps),
     }
 }
 
@@ -70,7 +58,7 @@ fn leg<S: Store>(
     kind: &str,
     store: &mut S,
     forward: bool,
-) -> io::Result<Ending> {
+) -> io::Result<Result<u32, Stopped>> {
     let name = job.name;
     let way = if forward { "forward" } else { "backward" };
     let start = Instant::now(rt)?;
@@ -94,8 +82,8 @@ fn measure<S: Store + Drop>(
     mut store: S,
 ) -> io::Result<()> {
     open(&mut store);
-    if let Ending::Finished(_) = leg(rt, job, kind, &mut store, true)? {
-        leg(rt, job, kind, &mut store, false)?;
+    if leg(rt, job, kind, &mut store, true)?.is_ok() {
+        let _ = leg(rt, job, kind, &mut store, false)?;
     }
     Ok(())
 }

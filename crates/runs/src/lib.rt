@@ -32,7 +32,7 @@ pub fn numbers(ending: Result<u32, Stopped>) -> (u32, u32, u32)
 {
     match ending {
         Ok(steps) => (0, 0, steps),
-        Err(stopped) => (stopped.refusal.code(), stopped.line, stopped.steps),
+        Err(stopped) => (u32::from(stopped.refusal), stopped.line, stopped.steps),
     }
 }
 
