@@ -65,8 +65,8 @@ fn measure_chosen(rt: &HostRuntime, choice: &Choice) -> io::Result<()> {
         job("refused", &refused(), &loops, SMALL),
     ];
     for job in jobs.iter().flatten() {
-        if wanted(&choice.job, job.name) {
-            on_kinds(rt, job, &choice.kind)?;
+        if wanted(choice.job.as_deref(), job.name) {
+            on_kinds(rt, job, choice.kind.as_deref())?;
         }
     }
     Ok(())

@@ -109,12 +109,12 @@ fn on_moves(rt: &HostRuntime, job: &Job) -> io::Result<()> {
 }
 
 // Whether a name is the chosen one; all are where none is chosen.
-pub(crate) fn wanted(chosen: &Option<String>, name: &str) -> bool {
-    chosen.as_ref().is_none_or(|text| text.as_str() == name)
+pub(crate) fn wanted(chosen: Option<&str>, name: &str) -> bool {
+    chosen.is_none_or(|text| text == name)
 }
 
 // A job on the chosen kind of store, or on all three.
-pub(crate) fn on_kinds(rt: &HostRuntime, job: &Job, kind: &Option<String>) -> io::Result<()> {
+pub(crate) fn on_kinds(rt: &HostRuntime, job: &Job, kind: Option<&str>) -> io::Result<()> {
     if wanted(kind, "words") {
         on_words(rt, job)?;
     }

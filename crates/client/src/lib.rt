@@ -31,6 +31,7 @@ pub fn copy_word<S: Store, T: Store>(from: &S, to: &mut T, w: u32) -> Result<(),
 }
 
 // Copies a whole book to a store of the same size. A refusal, that one of the two is no book or that the sizes differ, alters nothing.
+#[tactic(auto, using(crate::proofs::Copies::copying))]
 pub fn copy_book<S: Store, T: Store>(from: &S, to: &mut T) -> Result<(), Refusal>
     ensures answer { result ≡ copy_answer (S.book from.now) (T.book to.old) }
     ensures after { T.book to.new ≡ copied (S.book from.now) (T.book to.old) }

@@ -60,6 +60,7 @@ pub fn post<S: Store>(store: &mut S, instrument: Instrument, ticks: i32) -> Resu
 }
 
 // Writes a price into a layer, and gives the move that shows it over the price below, which stays.
+#[tactic(auto, using(crate::proofs::Marked::at_mark))]
 pub fn move_to<S: Store>(
     layer: &mut Moves<S>,
     instrument: Instrument,

@@ -8,7 +8,7 @@ use Rattle.std.proofs.lemmas.Bool.Decides.{nat_tests}
 use Rattle.rules.specs.Word.{word}
 use Rattle.rules.specs.Book.{Held}
 use Rattle.store.specs.Layout.{tab, is_mark, move_of, seen, moved, mark_moved}
-use Rattle.store.specs.Held.{Word, held_word}
+use Rattle.store.specs.Held.{Word, held_word, length_tab}
 use Rattle.store.proofs.Tabs.{tab_set, tab_past}
 
 pub mark_least : (w : ℕ) → is_mark w ≡ true → 1 ≤ w
@@ -101,3 +101,5 @@ mark_by ms b w v k l h =
     let lo : 1 ≤ w = mark_least w k in
     let hi : w ≤ 64 = mark_most w k in
     ap (λ x. move_of x w) (mark_in ms b w v h) ∙ cond-true (is_mark w) _ _ k ∙ get_or-set_same ms (w - 1) _ (pos 0) (omega arith)
+
+pub ruleset layering = (mark_by, mark_past, moved_set_mark, moved_set_other, length_tab)

@@ -66,7 +66,7 @@ impl<S: Store> Moves<S> {
     }
 }
 
-#[tactic(auto, using(crate::specs::Held::length_tab))]
+#[tactic(auto, using(crate::proofs::Layers::layering))]
 impl<S: Store> Store for Moves<S> {
     ghost book = { λ s. moved s.moves (S.book s.below) };
 
