@@ -14,7 +14,7 @@ use script::checking::check;
 fn verdict(lines: &[Line], terms: &[Term]) -> (u32, u32) {
     match check(lines, terms) {
         Ok(()) => (0, 0),
-        Err(fault) => (fault.refusal.code(), u32::from(fault.line)),
+        Err(fault) => (u32::from(fault.refusal), u32::from(fault.line)),
     }
 }
 

@@ -16,12 +16,12 @@ fn holds<S: Store>(rt: &impl Abort, store: &mut S, size: u32) -> Result<(), Fail
 
 // What a read gives, with a refusal as its number.
 fn got<S: Store>(store: &S, w: u32) -> Result<i32, u32> {
-    store.read(w).map_err(|refusal| refusal.code())
+    store.read(w).map_err(u32::from)
 }
 
 // What a write answers, with a refusal as its number.
 fn put<S: Store>(store: &mut S, w: u32, v: i32) -> Result<(), u32> {
-    store.write(w, v).map_err(|refusal| refusal.code())
+    store.write(w, v).map_err(u32::from)
 }
 
 fn is_no_book<S: Store>(rt: &impl Abort, store: &mut S) -> Result<(), Fail> {

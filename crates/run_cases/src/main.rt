@@ -66,7 +66,7 @@ fn build_and_try(rt: &HostRuntime, name: &str, case: &Case) -> io::Result<bool> 
     match Program::build(lines, terms) {
         Ok(program) => try_case(rt, name, case, &program),
         Err(fault) => {
-            let refusal = fault.refusal.code();
+            let refusal = u32::from(fault.refusal);
             let line = fault.line;
             println!(rt; "WRONG {name}: the check gives ({refusal}, {line})")?;
             Ok(false)

@@ -27,48 +27,30 @@ fn optional(text: &str) -> Option<Place> {
 
 // `begin 0`, `call 1` or `call 1 r1`.
 fn of_method(kind: Kind, text: &str) -> Option<Line> {
-    let (number, on) = cut(text);
-    let q = number.parse::<u8>().ok()?;
-    let y = optional(on)?;
-    Some(Line {
-        y,
-        ..Line::bare(kind, q)
-    })
+    let (number, y) = cut(text);
+    Some(Line::on(kind, number.parse().ok()?, optional(y)?))
 }
 
 // `new r1` or `copy r1 r2`.
 fn of_places(kind: Kind, text: &str) -> Option<Line> {
-    let (first, second) = cut(text);
-    let x = place(first)?;
-    let y = optional(second)?;
-    Some(Line {
-        x,
-        y,
-        ..Line::bare(kind, 0)
-    })
+    let (x, y) = cut(text);
+    Some(Line::places(kind, place(x)?, optional(y)?))
 }
 
-// The terms of an expression, and how many they are.
-fn add_terms(terms: &mut Vec<Term>, text: &str) -> Option<u16> {
-    let mut count = 0u16;
+// Adds the terms of an expression.
+fn add_terms(terms: &mut Vec<Term>, text: &str) -> Option<()> {
     for word in text.split_whitespace() {
-        let item = term(word)?;
-        terms.push(item).ok()?;
-        count = count.checked_add(1)?;
+        terms.push(term(word)?).ok()?;
     }
-    Some(count)
+    Some(())
 }
 
 // `if m1 0 =`, with the place that it is about given apart.
 fn of_expression(kind: Kind, x: Place, text: &str, terms: &mut Vec<Term>) -> Option<Line> {
     let first = u16::try_from(terms.len()).ok()?;
-    let count = add_terms(terms, text)?;
-    Some(Line {
-        x,
-        first,
-        count,
-        ..Line::bare(kind, 0)
-    })
+    add_terms(terms, text)?;
+    let end = u16::try_from(terms.len()).ok()?;
+    Some(Line::with(kind, x, first, end.checked_sub(first)?))
 }
 
 // `add m1 5`.
@@ -92,7 +74,10 @@ fn line(text: &str, terms: &mut Vec<Term>) -> Option<Line> {
 // How often a statement is to stand, and the statement.
 fn repeated(text: &str) -> (u16, &str) {
     let (first, rest) = cut(text);
-    match first.strip_suffix("x").and_then(|number| number.parse().ok()) {
+    match first
+        .strip_suffix("x")
+        .and_then(|number| number.parse().ok())
+    {
         Some(times) => (times, rest),
         None => (1, text),
     }

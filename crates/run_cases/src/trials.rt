@@ -1,7 +1,7 @@
 // A case on the three kinds of store.
 
 use crate::cases::{Answer, Case};
-use runs::{Ending, run};
+use runs::{Stopped, numbers, run};
 use script::program::Program;
 use std::alloc::{AllocError, Global};
 use store::{Bytes, Moves, Store, Words};
@@ -30,22 +30,12 @@ fn first_stray<S: Store>(store: &S, book: &[i32]) -> Option<u32> {
         .map(|(w, _)| w)
 }
 
-fn numbers(ending: Ending) -> Answer {
-    match ending {
-        Ending::Finished(steps) => Answer {
-            refusal: 0,
-            line: 0,
-            steps,
-        },
-        Ending::Refused {
-            refusal,
-            line,
-            steps,
-        } => Answer {
-            refusal: refusal.code(),
-            line,
-            steps,
-        },
+fn answer(ending: Result<u32, Stopped>) -> Answer {
+    let (refusal, line, steps) = numbers(ending);
+    Answer {
+        refusal,
+        line,
+        steps,
     }
 }
 
@@ -61,7 +51,7 @@ fn attempt<S: Store + Drop>(mut store: S, program: &Program, case: &Case) -> Fou
         which.budget,
     );
     Found {
-        answer: numbers(ending),
+        answer: answer(ending),
         stray: first_stray(&store, case.after.as_slice()),
     }
 }

@@ -1,6 +1,6 @@
 // The words that a script of the table is written in.
 
-use rules::{Kind, Place, Term};
+use rules::{Kind, Operator, Place, Term};
 use session::place_of;
 
 pub(crate) fn place(text: &str) -> Option<Place> {
@@ -9,63 +9,48 @@ pub(crate) fn place(text: &str) -> Option<Place> {
 }
 
 // An operator. `|` and `||` are written `or` and `either`, since `|` ends a field of the table.
-fn operator(text: &str) -> Option<u8> {
+fn operator(text: &str) -> Option<Operator> {
     match text {
-        "+" => Some(4),
-        "-" => Some(5),
-        "^" => Some(6),
-        "*" => Some(7),
-        "/" => Some(8),
-        "%" => Some(9),
-        "&" => Some(10),
-        "or" => Some(11),
-        "&&" => Some(12),
-        "either" => Some(13),
-        "<" => Some(14),
-        ">" => Some(15),
-        "=" => Some(16),
-        "!=" => Some(17),
-        "<=" => Some(18),
-        ">=" => Some(19),
+        "+" => Some(Operator::Plus),
+        "-" => Some(Operator::Minus),
+        "^" => Some(Operator::Xor),
+        "*" => Some(Operator::Times),
+        "/" => Some(Operator::Over),
+        "%" => Some(Operator::Remainder),
+        "&" => Some(Operator::BitAnd),
+        "or" => Some(Operator::BitOr),
+        "&&" => Some(Operator::And),
+        "either" => Some(Operator::Or),
+        "<" => Some(Operator::Less),
+        ">" => Some(Operator::Greater),
+        "=" => Some(Operator::Equal),
+        "!=" => Some(Operator::NotEqual),
+        "<=" => Some(Operator::AtMost),
+        ">=" => Some(Operator::AtLeast),
         _ => None,
-    }
-}
-
-fn plain(kind: u8, number: i32) -> Term {
-    Term {
-        number,
-        ..Term::bare(kind)
-    }
-}
-
-fn of_places(kind: u8, first: Place, second: Place) -> Term {
-    Term {
-        first,
-        second,
-        ..Term::bare(kind)
     }
 }
 
 // A term that names places: `m1`, `nil:r1` or `same:r1:r2`.
 fn naming(text: &str) -> Option<Term> {
     if let Some(x) = text.strip_prefix("nil:") {
-        return Some(of_places(2, place(x)?, Place::None));
+        return Some(Term::nil(place(x)?));
     }
     if let Some(both) = text.strip_prefix("same:") {
         let (x, y) = both.split_once(":")?;
-        return Some(of_places(3, place(x)?, place(y)?));
+        return Some(Term::same(place(x)?, place(y)?));
     }
-    Some(of_places(1, place(text)?, Place::None))
+    Some(Term::word(place(text)?))
 }
 
 pub(crate) fn term(text: &str) -> Option<Term> {
-    if let Ok(number) = text.parse::<i32>() {
-        return Some(plain(0, number));
+    if let Ok(number) = text.parse() {
+        return Some(Term::number(number));
     }
-    if let Some(kind) = operator(text) {
-        return Some(plain(kind, 0));
+    match operator(text) {
+        Some(operator) => Some(Term::operator(operator)),
+        None => naming(text),
     }
-    naming(text)
 }
 
 pub(crate) fn kind(text: &str) -> Option<Kind> {
