@@ -47,10 +47,11 @@ fn add_terms(terms: &mut Vec<Term>, text: &str) -> Option<()> {
 
 // `if m1 0 =`, with the place that it is about given apart.
 fn of_expression(kind: Kind, x: Place, text: &str, terms: &mut Vec<Term>) -> Option<Line> {
-    let first = u16::try_from(terms.len()).ok()?;
+    let before = terms.len();
+    let first = u16::try_from(before).ok()?;
     add_terms(terms, text)?;
-    let end = u16::try_from(terms.len()).ok()?;
-    Some(Line::with(kind, x, first, end.checked_sub(first)?))
+    let count = u16::try_from(terms.len().checked_sub(before)?).ok()?;
+    Some(Line::with(kind, x, first, count))
 }
 
 // `add m1 5`.
