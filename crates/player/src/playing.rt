@@ -133,10 +133,7 @@ fn call_store<R: BufRead, W: Write, S: Store>(
             writeln!(desk.out, "read {refusal} {word}")?;
         }
         Command::Write(w, v) => {
-            let refusal = match store.write(w, v) {
-                Ok(()) => 0,
-                Err(refusal) => u32::from(refusal),
-            };
+            let refusal = store.write(w, v).err().map_or(0, u32::from);
             writeln!(desk.out, "write {refusal}")?;
         }
         Command::Book => {
