@@ -1,6 +1,6 @@
 // Runs of a script on the three kinds of store, with what they gave and how fast they were.
 
-use runs::{Ending, run};
+use runs::{numbers, run};
 use script::program::Program;
 use std::io;
 use std::time::Instant;
@@ -29,18 +29,6 @@ fn open<S: Store>(store: &mut S) {
     for next in 2..61i32 {
         let _ = store.write(w, next);
         w = w.saturating_add(8);
-    }
-}
-
-// The refusal or 0, the line and the steps.
-fn numbers(ending: Ending) -> (u32, u32, u32) {
-    match ending {
-        Ending::Finished(steps) => (0, 0, steps),
-        Ending::Refused {
-            refusal,
-            line,
-            steps,
-        } => (refusal.code(), line, steps),
     }
 }
 

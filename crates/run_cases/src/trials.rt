@@ -1,7 +1,7 @@
 // A case on the three kinds of store.
 
 use crate::cases::{Answer, Case};
-use runs::{Ending, run};
+use runs::{numbers, run};
 use script::program::Program;
 use std::alloc::{AllocError, Global};
 use store::{Bytes, Moves, Store, Words};
@@ -43,32 +43,18 @@ fn first_stray<S: Store>(store: &S, book: &[i32]) -> Option<u32> {
     None
 }
 
-fn numbers(ending: Ending) -> Answer {
-    match ending {
-        Ending::Finished(steps) => Answer {
-            refusal: 0,
-            line: 0,
-            steps,
-        },
-        Ending::Refused {
-            refusal,
-            line,
-            steps,
-        } => Answer {
-            refusal: refusal.code(),
-            line,
-            steps,
-        },
-    }
-}
-
 // Fills the store, makes the run and compares the book.
 fn attempt<S: Store>(store: &mut S, program: &Program, case: &Case) -> Found {
     fill(store, case.before.as_slice());
     let which = case.run;
     let ending = run(store, program, which.method, which.forward, which.budget);
+    let (refusal, line, steps) = numbers(ending);
     Found {
-        answer: numbers(ending),
+        answer: Answer {
+            refusal,
+            line,
+            steps,
+        },
         stray: first_stray(store, case.after.as_slice()),
     }
 }

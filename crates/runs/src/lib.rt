@@ -37,13 +37,15 @@ pub fn numbers(ending: Result<u32, Stopped>) -> (u32, u32, u32)
 }
 
 // Refused before the first line.
-fn at_once(refusal: Refusal) -> Stopped
-    ensures { result ≡ record { refusal = refusal; line = 0; steps = 0 } }
-{
-    Stopped {
-        refusal,
-        line: 0,
-        steps: 0,
+impl From<Refusal> for Stopped {
+    ghost from_gives = { λ refusal stopped. stopped ≡ record { refusal = refusal; line = 0; steps = 0 } };
+
+    fn from(refusal: Refusal) -> Stopped {
+        Stopped {
+            refusal,
+            line: 0,
+            steps: 0,
+        }
     }
 }
 
@@ -114,11 +116,9 @@ pub fn run<S: Store>(
     ensures restored { Restored result (S.Store.book store.old) (S.Store.book store.new) }
 {
     if !has_book(store) {
-        return Err(at_once(Refusal::NoBook));
+        return Err(Stopped::from(Refusal::NoBook));
     }
-    let Some(mut work) = start(program, q, forward) else {
-        return Err(at_once(Refusal::NoSuchMethod));
-    };
+    let mut work = start(program, q, forward).ok_or(Refusal::NoSuchMethod)?;
     match walk(store, &mut work, program, budget) {
         Ok(steps) => Ok(steps),
         Err(stopped) => {

@@ -4,11 +4,20 @@ ghost use Rattle.std.specs.Prelude.{◌≡◌, map, slice_set};
 ghost use Rattle.reversible.specs.Ledger.{screen_call};
 ghost use Rattle.rules.specs.Ledger.{screen_rules};
 ghost use Rattle.screen.specs.Model.{model};
+ghost use Rattle.screen.specs.declared.words.Reply.TheVariants.{Numbers};
 ghost use Rattle.screen.specs.Sessions.{call_of, reply_of, Played, Rehearsed};
 
 use crate::parts::Screen;
 use crate::words::{Call, Reply};
 use store::Store;
+
+// The reply of a call that answers refusal, line and steps.
+fn numbers(answer: (u32, u32, u32)) -> Reply
+    ensures { result ≡ Numbers answer.0 answer.1 answer.2 }
+{
+    let (refusal, line, steps) = answer;
+    Reply::Numbers(refusal, line, steps)
+}
 
 // Makes one call on a screen.
 pub fn make_call<S: Store>(screen: &mut Screen<S>, call: Call) -> Reply
@@ -16,18 +25,9 @@ pub fn make_call<S: Store>(screen: &mut Screen<S>, call: Call) -> Reply
     ensures screen { model S.Store.book screen.new ≡ (screen_call screen_rules (model S.Store.book screen.old) (call_of call.entry)).1 }
 {
     match call {
-        Call::Load(lines, terms) => {
-            let (refusal, line, steps) = screen.load(lines, terms);
-            Reply::Numbers(refusal, line, steps)
-        }
-        Call::Apply(q, budget) => {
-            let (refusal, line, steps) = screen.apply(q, budget);
-            Reply::Numbers(refusal, line, steps)
-        }
-        Call::Back => {
-            let (refusal, line, steps) = screen.back();
-            Reply::Numbers(refusal, line, steps)
-        }
+        Call::Load(lines, terms) => numbers(screen.load(lines, terms)),
+        Call::Apply(q, budget) => numbers(screen.apply(q, budget)),
+        Call::Back => numbers(screen.back()),
         Call::Look(w) => {
             let (refusal, word) = screen.look(w);
             Reply::Word(refusal, word)
