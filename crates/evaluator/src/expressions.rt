@@ -29,7 +29,7 @@ fn take_operator(operator: Operator, stack: &mut Stack) -> Result<(), Refusal>
 
 #[tactic(auto, using(crate::proofs::Chains::chained), unfolding(rules::specs::Expression::taken))]
 fn take_term<S: Store>(store: &S, work: &Work, t: Term, stack: &mut Stack) -> Result<(), Refusal>
-    ensures { Pushed result stack.new (taken t (seen (state work.now (S.Store.book store.now)) t.first) (seen (state work.now (S.Store.book store.now)) t.second) stack.old) }
+    ensures { Pushed result stack.new (taken t (seen (state work.now (S.book store.now)) t.first) (seen (state work.now (S.book store.now)) t.second) stack.old) }
 {
     match TermKind::try_from(t.kind)? {
         TermKind::Number => stack.push(t.number),
@@ -52,7 +52,7 @@ fn take_term<S: Store>(store: &S, work: &Work, t: Term, stack: &mut Stack) -> Re
 
 // The value of the expression of line l.
 pub fn value<S: Store>(store: &S, work: &Work, program: &Program, l: u16) -> Result<i32, Refusal>
-    ensures { result ≡ value_of (script_of program.now) (state work.now (S.Store.book store.now)) l }
+    ensures { result ≡ value_of (script_of program.now) (state work.now (S.book store.now)) l }
 {
     let line = line_at(program, u32::from(l));
     let mut stack = Stack::new();

@@ -46,19 +46,19 @@ pub fn find(work: &Work, p: Place) -> Result<Spot, Refusal>
 
 // Word w of the book, 0 if there is none.
 pub fn word_at<S: Store>(store: &S, w: u32) -> i32
-    ensures { result ≡ slice_index_or (S.Store.book store.now) w (pos 0) }
+    ensures { result ≡ slice_index_or (S.book store.now) w (pos 0) }
 {
     store.read(w).unwrap_or(0)
 }
 
 pub fn put_word<S: Store>(store: &mut S, w: u32, v: i32)
-    ensures { S.Store.book store.new ≡ slice_set (S.Store.book store.old) w v }
+    ensures { S.book store.new ≡ slice_set (S.book store.old) w v }
 {
     let _ = store.write(w, v);
 }
 
 pub fn read_at<S: Store>(store: &S, work: &Work, s: Spot) -> i32
-    ensures { result ≡ read (state work.now (S.Store.book store.now)) s }
+    ensures { result ≡ read (state work.now (S.book store.now)) s }
 {
     match s {
         Spot::InBook(w) => word_at(store, w),
@@ -67,7 +67,7 @@ pub fn read_at<S: Store>(store: &S, work: &Work, s: Spot) -> i32
 }
 
 pub fn write_at<S: Store>(store: &mut S, work: &mut Work, s: Spot, v: i32)
-    ensures { state work.new (S.Store.book store.new) ≡ write s v (state work.old (S.Store.book store.old)) }
+    ensures { state work.new (S.book store.new) ≡ write s v (state work.old (S.book store.old)) }
 {
     match s {
         Spot::InBook(w) => put_word(store, w, v),
@@ -82,7 +82,7 @@ pub fn write_at<S: Store>(store: &mut S, work: &mut Work, s: Spot, v: i32)
 // What a place holds.
 #[tactic(auto, using(crate::proofs::Chains::chained))]
 pub(crate) fn see<S: Store>(store: &S, work: &Work, p: Place) -> Result<i32, Refusal>
-    ensures { result ≡ seen (state work.now (S.Store.book store.now)) p }
+    ensures { result ≡ seen (state work.now (S.book store.now)) p }
 {
     let s = find(work, p)?;
     Ok(read_at(store, work, s))

@@ -22,7 +22,7 @@ impl Due {
         work: &mut Work,
         program: &Program,
     ) -> Result<(), Refusal>
-        ensures { Made result work.old (S.Store.book store.now) work.new (S.Store.book store.now) (λ s. branches (script_of program.now) self s) }
+        ensures { Made result work.old (S.book store.now) work.new (S.book store.now) (λ s. branches (script_of program.now) self s) }
     {
         if value(store, work, program, self.number)? != 0 {
             pass(work, self.number);
@@ -44,7 +44,7 @@ impl Due {
         work: &mut Work,
         program: &Program,
     ) -> Result<(), Refusal>
-        ensures { Made result work.old (S.Store.book store.now) work.new (S.Store.book store.now) (λ s. asserts (script_of program.now) self s) }
+        ensures { Made result work.old (S.book store.now) work.new (S.book store.now) (λ s. asserts (script_of program.now) self s) }
     {
         if value(store, work, program, self.number)? == 0 {
             return Err(Refusal::TestFailed);

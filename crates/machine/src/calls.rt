@@ -21,7 +21,7 @@ use work::{Work, entry, line_at};
 // The record that a call on y makes the present one.
 #[tactic(auto, using(evaluator::proofs::Chains::chained))]
 fn called_record<S: Store>(store: &S, work: &Work, y: Place) -> Result<u16, Refusal>
-    ensures { result ≡ callee (state work.now (S.Store.book store.now)) y }
+    ensures { result ≡ callee (state work.now (S.book store.now)) y }
 {
     if let Place::None = y {
         return Ok(work.present);
@@ -58,7 +58,7 @@ impl Due {
         program: &Program,
         forward: bool,
     ) -> Result<(), Refusal>
-        ensures { Made result work.old (S.Store.book store.now) work.new (S.Store.book store.now) (λ s. enters (script_of program.now) self s forward) }
+        ensures { Made result work.old (S.book store.now) work.new (S.book store.now) (λ s. enters (script_of program.now) self s forward) }
     {
         if !has_room(work) {
             return Err(Refusal::TooDeep);
@@ -91,7 +91,7 @@ fn caller_local(work: &Work) -> u16
 // y, if named, found with the caller's record and locals, holds the present record.
 #[tactic(auto, using(evaluator::proofs::Chains::chained))]
 fn holds<S: Store>(store: &S, work: &Work, former: u16, y: Place) -> Result<(), Refusal>
-    ensures { result ≡ holding (back_in former (under work.now) (state work.now (S.Store.book store.now))) y work.now.present }
+    ensures { result ≡ holding (back_in former (under work.now) (state work.now (S.book store.now))) y work.now.present }
 {
     if let Place::None = y {
         return Ok(());
@@ -105,7 +105,7 @@ fn holds<S: Store>(store: &S, work: &Work, former: u16, y: Place) -> Result<(), 
 
 // The same of y of the frame's line.
 fn still_holds<S: Store>(store: &S, work: &Work, program: &Program, f: Frame) -> Result<(), Refusal>
-    ensures { result ≡ holding (back_in f.former (under work.now) (state work.now (S.Store.book store.now))) (line_at (script_of program.now).lines f.line).y work.now.present }
+    ensures { result ≡ holding (back_in f.former (under work.now) (state work.now (S.book store.now))) (line_at (script_of program.now).lines f.line).y work.now.present }
 {
     let call = line_at(program, f.line as u32);
     holds(store, work, f.former, call.y)
@@ -132,7 +132,7 @@ pub(crate) fn come_back<S: Store>(
     work: &mut Work,
     program: &Program,
 ) -> Result<(), Refusal>
-    ensures { Made result work.old (S.Store.book store.now) work.new (S.Store.book store.now) (λ s. comes_back (script_of program.now) s) }
+    ensures { Made result work.old (S.book store.now) work.new (S.book store.now) (λ s. comes_back (script_of program.now) s) }
 {
     let f = top_frame(work).ok_or(Refusal::Unpaired)?;
     still_holds(store, work, program, f)?;

@@ -23,7 +23,7 @@ pub(crate) fn pass(work: &mut Work, l: u16)
 
 // The spot u takes the word v, and the position goes past line l.
 pub(crate) fn settle<S: Store>(store: &mut S, work: &mut Work, l: u16, u: Spot, v: i32)
-    ensures { state work.new (S.Store.book store.new) ≡ go_to (past work.old.forward l) (write u v (state work.old (S.Store.book store.old))) }
+    ensures { state work.new (S.book store.new) ≡ go_to (past work.old.forward l) (write u v (state work.old (S.book store.old))) }
 {
     write_at(store, work, u, v);
     pass(work, l);
@@ -60,7 +60,7 @@ impl Due {
         program: &Program,
         change: Change,
     ) -> Result<(), Refusal>
-        ensures { Made result work.old (S.Store.book store.old) work.new (S.Store.book store.new) (λ s. changes (script_of program.now) self s change) }
+        ensures { Made result work.old (S.book store.old) work.new (S.book store.new) (λ s. changes (script_of program.now) self s change) }
     {
         let e = value(store, work, program, self.number)?;
         let u = find(work, self.line.x)?;
@@ -77,7 +77,7 @@ impl Due {
         work: &mut Work,
         program: &Program,
     ) -> Result<(), Refusal>
-        ensures { Made result work.old (S.Store.book store.now) work.new (S.Store.book store.now) (λ s. opens (script_of program.now) self s) }
+        ensures { Made result work.old (S.book store.now) work.new (S.book store.now) (λ s. opens (script_of program.now) self s) }
     {
         if work.locals.is_full() {
             return Err(Refusal::TooDeep);
@@ -96,7 +96,7 @@ impl Due {
         work: &mut Work,
         program: &Program,
     ) -> Result<(), Refusal>
-        ensures { Made result work.old (S.Store.book store.now) work.new (S.Store.book store.now) (λ s. closes (script_of program.now) self s) }
+        ensures { Made result work.old (S.book store.now) work.new (S.book store.now) (λ s. closes (script_of program.now) self s) }
     {
         let e = value(store, work, program, self.number)?;
         if work.locals.last().copied().unwrap_or(0) != e {

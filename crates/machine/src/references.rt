@@ -16,7 +16,7 @@ use work::Work;
 
 // Two spots take each other's words.
 fn swap_words<S: Store>(store: &mut S, work: &mut Work, u: Spot, w: Spot)
-    ensures { state work.new (S.Store.book store.new) ≡ write w (read (state work.old (S.Store.book store.old)) u) (write u (read (state work.old (S.Store.book store.old)) w) (state work.old (S.Store.book store.old))) }
+    ensures { state work.new (S.book store.new) ≡ write w (read (state work.old (S.book store.old)) u) (write u (read (state work.old (S.book store.old)) w) (state work.old (S.book store.old))) }
 {
     let a = read_at(store, work, u);
     let b = read_at(store, work, w);
@@ -28,7 +28,7 @@ impl Due {
     // new
     #[tactic(auto, using(evaluator::proofs::Chains::chained), unfolding(crate::specs::Acting::allocates))]
     pub(crate) fn allocate<S: Store>(self, store: &mut S, work: &mut Work) -> Result<(), Refusal>
-        ensures { Made result work.old (S.Store.book store.old) work.new (S.Store.book store.new) (λ s. allocates self s) }
+        ensures { Made result work.old (S.book store.old) work.new (S.book store.new) (λ s. allocates self s) }
     {
         let u = find(work, self.line.x)?;
         if read_at(store, work, u) != 0 {
@@ -50,7 +50,7 @@ impl Due {
     // delete
     #[tactic(auto, using(evaluator::proofs::Chains::chained), unfolding(crate::specs::Acting::releases))]
     pub(crate) fn release<S: Store>(self, store: &mut S, work: &mut Work) -> Result<(), Refusal>
-        ensures { Made result work.old (S.Store.book store.old) work.new (S.Store.book store.new) (λ s. releases self s) }
+        ensures { Made result work.old (S.book store.old) work.new (S.book store.new) (λ s. releases self s) }
     {
         let u = find(work, self.line.x)?;
         let k = record_named(store, read_at(store, work, u)).ok_or(Refusal::NoRecord)?;
@@ -65,7 +65,7 @@ impl Due {
     // copy
     #[tactic(auto, using(evaluator::proofs::Chains::chained), unfolding(crate::specs::Acting::duplicates))]
     pub(crate) fn duplicate<S: Store>(self, store: &mut S, work: &mut Work) -> Result<(), Refusal>
-        ensures { Made result work.old (S.Store.book store.old) work.new (S.Store.book store.new) (λ s. duplicates self s) }
+        ensures { Made result work.old (S.book store.old) work.new (S.book store.new) (λ s. duplicates self s) }
     {
         let u = find(work, self.line.x)?;
         let w = find(work, self.line.y)?;
@@ -80,7 +80,7 @@ impl Due {
     // uncopy
     #[tactic(auto, using(evaluator::proofs::Chains::chained), unfolding(crate::specs::Acting::erases))]
     pub(crate) fn erase<S: Store>(self, store: &mut S, work: &mut Work) -> Result<(), Refusal>
-        ensures { Made result work.old (S.Store.book store.old) work.new (S.Store.book store.new) (λ s. erases self s) }
+        ensures { Made result work.old (S.book store.old) work.new (S.book store.new) (λ s. erases self s) }
     {
         let u = find(work, self.line.x)?;
         let w = find(work, self.line.y)?;
@@ -94,7 +94,7 @@ impl Due {
     // swap
     #[tactic(auto, using(evaluator::proofs::Chains::chained), unfolding(crate::specs::Acting::exchanges))]
     pub(crate) fn exchange<S: Store>(self, store: &mut S, work: &mut Work) -> Result<(), Refusal>
-        ensures { Made result work.old (S.Store.book store.old) work.new (S.Store.book store.new) (λ s. exchanges self s) }
+        ensures { Made result work.old (S.book store.old) work.new (S.book store.new) (λ s. exchanges self s) }
     {
         let u = find(work, self.line.x)?;
         let w = find(work, self.line.y)?;

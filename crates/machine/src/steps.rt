@@ -16,7 +16,7 @@ use work::Work;
 impl Due {
     // What the line does.
     fn act<S: Store>(self, store: &mut S, work: &mut Work, program: &Program) -> Result<(), Refusal>
-        ensures { Acted result work.old (S.Store.book store.old) work.new (S.Store.book store.new) (script_of program.now) self }
+        ensures { Acted result work.old (S.book store.old) work.new (S.book store.new) (script_of program.now) self }
     {
         match self.kind {
             Kind::Begin => Err(Refusal::Unpaired),
@@ -41,7 +41,7 @@ impl Due {
 
 // One step. A refused step alters nothing.
 pub fn step<S: Store>(store: &mut S, work: &mut Work, program: &Program) -> Result<(), Refusal>
-    ensures { Made result work.old (S.Store.book store.old) work.new (S.Store.book store.new) (λ s. step_of (script_of program.now) s) }
+    ensures { Made result work.old (S.book store.old) work.new (S.book store.new) (λ s. step_of (script_of program.now) s) }
 {
     let due = line_due(work, program)?;
     due.act(store, work, program)

@@ -37,13 +37,15 @@ pub fn numbers(ending: Result<u32, Stopped>) -> (u32, u32, u32)
 }
 
 // Refused before the first line.
-fn at_once(refusal: Refusal) -> Stopped
-    ensures { result ≡ record { refusal = refusal; line = 0; steps = 0 } }
-{
-    Stopped {
-        refusal,
-        line: 0,
-        steps: 0,
+impl From<Refusal> for Stopped {
+    ghost from_gives = { λ refusal stopped. stopped ≡ record { refusal = refusal; line = 0; steps = 0 } };
+
+    fn from(refusal: Refusal) -> Stopped {
+        Stopped {
+            refusal,
+            line: 0,
+            steps: 0,
+        }
     }
 }
 
@@ -65,7 +67,7 @@ fn walk<S: Store>(
     program: &Program,
     budget: u32,
 ) -> Result<u32, Stopped>
-    ensures { halt result (state work.new (S.Store.book store.new)) ≡ halted 0 (walk_of (machine (script_of program.now)) budget (state work.old (S.Store.book store.old))) }
+    ensures { halt result (state work.new (S.book store.new)) ≡ halted 0 (walk_of (machine (script_of program.now)) budget (state work.old (S.book store.old))) }
 {
     let mut steps: u32 = 0;
     while !finished(work, program) {
@@ -81,7 +83,7 @@ fn walk<S: Store>(
 }
 
 fn make_steps<S: Store>(store: &mut S, work: &mut Work, program: &Program, n: u32)
-    ensures { state work.new (S.Store.book store.new) ≡ stepped (script_of program.now) n (state work.old (S.Store.book store.old)) }
+    ensures { state work.new (S.book store.new) ≡ stepped (script_of program.now) n (state work.old (S.book store.old)) }
 {
     for _ in 0..n {
         let _ = step(store, work, program);
@@ -90,14 +92,14 @@ fn make_steps<S: Store>(store: &mut S, work: &mut Work, program: &Program, n: u3
 
 // Back through the steps that were made.
 fn unwind<S: Store>(store: &mut S, work: &mut Work, program: &Program, steps: u32)
-    ensures { state work.new (S.Store.book store.new) ≡ stepped (script_of program.now) steps (flipped (state work.old (S.Store.book store.old))) }
+    ensures { state work.new (S.book store.new) ≡ stepped (script_of program.now) steps (flipped (state work.old (S.book store.old))) }
 {
     turn_round(work);
     make_steps(store, work, program, steps);
 }
 
 fn has_book<S: Store>(store: &S) -> bool
-    ensures { result ≡ is_book (S.Store.book store.now) }
+    ensures { result ≡ is_book (S.book store.now) }
 {
     store.size() != 0
 }
@@ -110,15 +112,13 @@ pub fn run<S: Store>(
     forward: bool,
     budget: u32,
 ) -> Result<u32, Stopped>
-    ensures outcome { told result (S.Store.book store.new) ≡ run_of (machine (script_of program.now)) q (facing forward) (S.Store.book store.old) budget }
-    ensures restored { Restored result (S.Store.book store.old) (S.Store.book store.new) }
+    ensures outcome { told result (S.book store.new) ≡ run_of (machine (script_of program.now)) q (facing forward) (S.book store.old) budget }
+    ensures restored { Restored result (S.book store.old) (S.book store.new) }
 {
     if !has_book(store) {
-        return Err(at_once(Refusal::NoBook));
+        return Err(Stopped::from(Refusal::NoBook));
     }
-    let Some(mut work) = start(program, q, forward) else {
-        return Err(at_once(Refusal::NoSuchMethod));
-    };
+    let mut work = start(program, q, forward).ok_or(Refusal::NoSuchMethod)?;
     match walk(store, &mut work, program, budget) {
         Ok(steps) => Ok(steps),
         Err(stopped) => {
@@ -139,9 +139,9 @@ pub fn run_both<A: Store, B: Store>(
     x: u32,
     y: u32,
 ) -> (Result<u32, Stopped>, Result<u32, Stopped>)
-    ensures first { told result.0 (A.Store.book a.new) ≡ run_of (machine (script_of program.now)) q (facing forward) (A.Store.book a.old) x }
-    ensures second { told result.1 (B.Store.book b.new) ≡ run_of (machine (script_of program.now)) q (facing forward) (B.Store.book b.old) y }
-    ensures apart { Apart result.0 result.1 (A.Store.book a.old) (B.Store.book b.old) (A.Store.book a.new) (B.Store.book b.new) }
+    ensures first { told result.0 (A.book a.new) ≡ run_of (machine (script_of program.now)) q (facing forward) (A.book a.old) x }
+    ensures second { told result.1 (B.book b.new) ≡ run_of (machine (script_of program.now)) q (facing forward) (B.book b.old) y }
+    ensures apart { Apart result.0 result.1 (A.book a.old) (B.book b.old) (A.book a.new) (B.book b.new) }
 {
     (
         run(a, program, q, forward, x),

@@ -1,46 +1,32 @@
 -- The calls of the rules' screen, by what the code found.
-use Rattle.std.proofs.Common.{◌≡◌, ℕ, ◌+◌, ◌-◌, ◌<◌, ◌≤◌, Bool, true, false, List, [], ◌∷◌, ◌++◌, map, length, get_or, take, set, ℤ, sym, refl, ap, ◌∙◌, arith}
+use Rattle.std.proofs.Common.{◌≡◌, ℕ, ◌-◌, ◌<◌, Bool, true, false, List, [], ◌∷◌, map, length, get_or, take, ℤ, sym, refl, ap, ◌∙◌, arith}
 use lib.ListN.{length-map}
-use Rattle.std.proofs.lemmas.List.{map-append, take_more_set, length-take-le, get_or-map, get_or-take, take-map, take-take}
-use Rattle.std.proofs.lemmas.Bool.{lt-ltb, le-ltb}
+use Rattle.std.proofs.lemmas.List.{get_or-map, take-map}
+use Rattle.std.proofs.lemmas.Bool.{lt-ltb}
 use Rattle.reversible.specs.Machine.{Machine, fwd, bwd, Outcome, run}
-use Rattle.reversible.specs.Ledger.{Entry, entry, last, struck, Screen as Model, Verdict, refusal, gate, attempt, apply, back, screen_load, screen_apply, screen_backed, screen_back, screen_call}
-use Rattle.rules.specs.Book.{is_book}
-use Rattle.rules.specs.Script.{Script, has_method}
+use Rattle.reversible.specs.Ledger.{Entry, entry, last, struck, Screen as Model, gate, attempt, apply, back, screen_apply, screen_backed, screen_back, screen_call}
+use Rattle.rules.specs.Script.{Script}
 use Rattle.rules.specs.Step.{State}
 use Rattle.rules.specs.Run.{machine}
 use Rattle.rules.specs.Ledger.{screen_rules}
 use Rattle.rules.specs.declared.Refusal.{Refusal}
-use Rattle.rules.specs.declared.Refusal.TheVariants.{SomethingStands}
 use Rattle.screen.specs.declared.parts.Standing.{Standing}
-use Rattle.screen.specs.Model.{entry_of, Full}
+use Rattle.screen.specs.Model.{entry_of}
 
--- ---- the standing list in its array
+-- ---- the standing list
 
-module _ (xs : List Standing) (n : ℕ) (h : n ≤ length xs) where
-  pub standing_length : length (map entry_of (take n xs)) ≡ n
-  standing_length = length-map (take n xs) entry_of ∙ length-take-le n xs h
+pub standing_length : (xs : List Standing) → length (map entry_of xs) ≡ length xs
+standing_length xs = length-map xs entry_of
 
-  pub standing_last : (d : Standing) → 0 < n → last (map entry_of (take n xs)) ≡ entry_of (get_or xs (n - 1) d)
-  standing_last d some =
-      let k : length (map entry_of (take n xs)) - 1 ≡ n - 1 = let s = standing_length in omega arith in
-      ap (λ i. get_or (map entry_of (take n xs)) i (entry 0 0)) k
-      ∙ get_or-map entry_of (take n xs) (n - 1) d (entry 0 0) (let s = length-take-le n xs h in omega arith)
-      ∙ ap entry_of (get_or-take n xs (n - 1) d (omega arith))
+pub standing_last : (xs : List Standing) (d : Standing) → 0 < length xs → last (map entry_of xs) ≡ entry_of (get_or xs (length xs - 1) d)
+standing_last xs d some =
+    ap (λ n. get_or (map entry_of xs) (n - 1) (entry 0 0)) (standing_length xs)
+    ∙ get_or-map entry_of xs (length xs - 1) d (entry 0 0) (omega arith)
 
-  pub standing_struck : 0 < n → struck (map entry_of (take n xs)) ≡ map entry_of (take (n - 1) xs)
-  standing_struck some =
-      let k : length (map entry_of (take n xs)) - 1 ≡ n - 1 = let s = standing_length in omega arith in
-      ap (λ i. take i (map entry_of (take n xs))) k ∙ take-map entry_of (n - 1) (take n xs) ∙ ap (map entry_of) (take-take (n - 1) n xs (omega arith))
-
-pub standing_joined : (xs : List Standing) (n : ℕ) (s : Standing) → n < length xs → map entry_of (take (n + 1) (set xs n s)) ≡ map entry_of (take n xs) ++ (entry_of s ∷ [])
-standing_joined xs n s h = ap (map entry_of) (take_more_set xs n s h) ∙ map-append entry_of (take n xs) (s ∷ [])
+pub standing_struck : (xs : List Standing) → struck (map entry_of xs) ≡ map entry_of (take (length xs - 1) xs)
+standing_struck xs = ap (λ n. take (n - 1) (map entry_of xs)) (standing_length xs) ∙ take-map entry_of (length xs - 1) xs
 
 -- ---- the calls
-
-pub load_stands : (m : Model (List ℤ) Script) (sc : Script) (st : List Entry) (v : Verdict Refusal) → 0 < length st → screen_load screen_rules m sc st v ≡ (refusal SomethingStands 0 0, m)
-load_stands m sc [] v h = absurd (omega arith)
-load_stands m sc (x ∷ st) v h = refl
 
 -- with room, an attempt is a run
 attempt_run : (m : Machine State (List ℤ) Refusal) (a : List ℤ) (st : List Entry) (q budget : ℕ) → length st < 64 → attempt screen_rules m a st q budget ≡ run m q fwd a budget
@@ -55,15 +41,21 @@ pub apply_room : (s : Model (List ℤ) Script) (q budget : ℕ) (o : Outcome (Li
     → screen_call screen_rules s (apply q budget) ≡ screen_apply screen_rules s q o
 apply_room s q budget o h e = ap (screen_apply screen_rules s q) (attempt_run (machine s.script) s.book s.standing q budget h ∙ sym e)
 
-pub apply_full : (s : Model (List ℤ) Script) (q budget : ℕ) (r : Refusal) → 64 ≤ length s.standing → Full r s q → screen_call screen_rules s (apply q budget) ≡ (refusal r 0 0, s)
-apply_full s q budget r h f =
-    ap (screen_apply screen_rules s q)
-    (ap (gate screen_rules (machine s.script) s.book q budget (is_book s.book) (has_method s.script.lines q)) (le-ltb (length s.standing) 64 h) ∙ f budget)
-
-pub back_stands : (s : Model (List ℤ) Script) (o : Outcome (List ℤ) Refusal) → 0 < length s.standing → o ≡ run (machine s.script) (last s.standing).method bwd s.book (last s.standing).steps
+back_stands : (s : Model (List ℤ) Script) (o : Outcome (List ℤ) Refusal) → 0 < length s.standing → o ≡ run (machine s.script) (last s.standing).method bwd s.book (last s.standing).steps
     → screen_call screen_rules s back ≡ screen_backed screen_rules s o
 back_stands s o h e = by s.standing h e
   where
     by : (st : List Entry) → 0 < length st → o ≡ run (machine s.script) (last st).method bwd s.book (last st).steps → screen_back screen_rules s st ≡ screen_backed screen_rules s o
     by [] h e = absurd (omega arith)
     by (x ∷ st) h e = ap (screen_backed screen_rules s) (sym e)
+
+abbrev shown : List ℤ → Script → List Standing → Model (List ℤ) Script
+shown b sc xs = record { book = b; script = sc; standing = map entry_of xs }
+
+-- back runs the last method that stands
+pub back_last : (b : List ℤ) (sc : Script) (xs : List Standing) (x : Standing) (o : Outcome (List ℤ) Refusal) → 0 < length xs → x ≡ get_or xs (length xs - 1) x
+    → o ≡ run (machine sc) x.method bwd b x.steps
+    → screen_call screen_rules (shown b sc xs) back ≡ screen_backed screen_rules (shown b sc xs) o
+back_last b sc xs x o some is e =
+    let l = standing_last xs x some ∙ ap entry_of (sym is) in
+    back_stands (shown b sc xs) o (let n = standing_length xs in omega arith) (e ∙ ap (λ y. run (machine sc) y.method bwd b y.steps) (sym l))

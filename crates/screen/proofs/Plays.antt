@@ -3,7 +3,7 @@ use Rattle.std.proofs.Common.{◌≡◌, ℕ, suc, ◌+◌, ◌<◌, List, [], �
 use lib.ListN.{length-map}
 use Rattle.std.proofs.lemmas.List.{take_more, map-append}
 use Rattle.reversible.specs.Machine.{Outcome, done, refused}
-use Rattle.reversible.specs.Ledger.{Call as Asked, Verdict, accepted, rejected, Entry, Answer, Screen as Model, plays, open_screen, screen_after, screen_load, screen_apply, screen_backed, screen_back, screen_call}
+use Rattle.reversible.specs.Ledger.{Call as Asked, Entry, Answer, Screen as Model, plays, open_screen, screen_after, screen_backed, screen_back, screen_call}
 use Rattle.rules.specs.Script.{Script}
 use Rattle.rules.specs.Ledger.{screen_rules}
 use Rattle.rules.specs.declared.Refusal.{Refusal}
@@ -18,15 +18,6 @@ use Rattle.screen.specs.Sessions.{call_of, reply_of, written, Played}
 
 abbrev numbered : ℕ × ℕ × ℕ → Reply
 numbered r = Numbers r.0 r.1 r.2
-
-pub load_reply : (m : Model (List ℤ) Script) (sc : Script) (st : List Entry) (v : Verdict Refusal) → numbered (three (screen_load screen_rules m sc st v).0) ≡ reply_of (screen_load screen_rules m sc st v).0
-load_reply m sc [] accepted = refl
-load_reply m sc [] (rejected r k) = refl
-load_reply m sc (x ∷ st) v = refl
-
-pub apply_reply : (m : Model (List ℤ) Script) (q : ℕ) (o : Outcome (List ℤ) Refusal) → numbered (three (screen_apply screen_rules m q o).0) ≡ reply_of (screen_apply screen_rules m q o).0
-apply_reply m q (done n b) = refl
-apply_reply m q (refused r l n b) = refl
 
 backed_reply : (m : Model (List ℤ) Script) (o : Outcome (List ℤ) Refusal) → numbered (three (screen_backed screen_rules m o).0) ≡ reply_of (screen_backed screen_rules m o).0
 backed_reply m (done n b) = refl

@@ -1,5 +1,5 @@
 -- The screen of the rules that a screen stands for, and its answers as numbers.
-use Rattle.std.specs.Prelude.{◌≡◌, ℕ, false, List, map, take, ℤ, pos, Ok, Err}
+use Rattle.std.specs.Prelude.{◌≡◌, ℕ, false, List, map, ℤ, pos, Ok, Err, Result}
 use Rattle.reversible.specs.Machine.{refused}
 use Rattle.reversible.specs.Ledger.{Entry, entry, Screen as Model, Answer, success, refusal, seen, gate}
 use Rattle.rules.specs.Answer.{number}
@@ -9,6 +9,7 @@ use Rattle.rules.specs.Run.{machine}
 use Rattle.rules.specs.Ledger.{screen_rules}
 use Rattle.rules.specs.declared.Refusal.{Refusal}
 use Rattle.script.specs.Programs.{script_of}
+use Rattle.runs.specs.declared.Stopped.{Stopped}
 use Rattle.screen.specs.declared.parts.Standing.{Standing}
 use Rattle.screen.specs.declared.parts.Screen.{Screen}
 
@@ -16,10 +17,15 @@ abbrev pub entry_of : Standing → Entry
 entry_of s = entry s.method s.steps
 
 abbrev pub standing_of : {S : Type 0} → Screen S → List Entry
-standing_of s = map entry_of (take s.count s.standing)
+standing_of s = map entry_of s.standing.items
 
 abbrev pub model : {S : Type 0} → (S → List ℤ) → Screen S → Model (List ℤ) Script
 model book s = record { book = book s.store; script = script_of s.program; standing = standing_of s }
+
+-- a run's answer as the screen's
+abbrev pub answered : Result ℕ Stopped → Answer ℤ Refusal
+answered (Ok n) = success n
+answered (Err s) = refusal s.refusal s.line s.steps
 
 -- the three numbers of load, apply and back: refusal, line and steps
 abbrev pub three : Answer ℤ Refusal → ℕ × ℕ × ℕ

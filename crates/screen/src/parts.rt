@@ -1,9 +1,11 @@
-ghost use Rattle.std.specs.Prelude.{◌≡◌, ◌≤◌, length};
-
+use arrayvec::ArrayVec;
 use script::program::Program;
 
+// As many methods may stand.
+pub(crate) const CAPACITY: usize = 64;
+
 // A method that stands, and the steps in which it finished.
-#[derive(Clone, Copy)]
+#[derive(Clone, Copy, Default)]
 pub struct Standing {
     pub method: u32,
     pub steps: u32,
@@ -14,8 +16,5 @@ pub struct Standing {
 pub struct Screen<S> {
     pub(crate) store: S,
     pub(crate) program: Program,
-    pub(crate) standing: [Standing; 64],
-    pub(crate) count: usize,
-    ghost few: { count ≤ 64 },
-    ghost whole: { length standing ≡ 64 },
+    pub(crate) standing: ArrayVec<Standing, CAPACITY>,
 }

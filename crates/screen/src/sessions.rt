@@ -4,30 +4,30 @@ ghost use Rattle.std.specs.Prelude.{◌≡◌, map, slice_set};
 ghost use Rattle.reversible.specs.Ledger.{screen_call};
 ghost use Rattle.rules.specs.Ledger.{screen_rules};
 ghost use Rattle.screen.specs.Model.{model};
+ghost use Rattle.screen.specs.declared.words.Reply.TheVariants.{Numbers};
 ghost use Rattle.screen.specs.Sessions.{call_of, reply_of, Played, Rehearsed};
 
 use crate::parts::Screen;
 use crate::words::{Call, Reply};
 use store::Store;
 
+// The reply of a call that answers refusal, line and steps.
+fn numbers(answer: (u32, u32, u32)) -> Reply
+    ensures { result ≡ Numbers answer.0 answer.1 answer.2 }
+{
+    let (refusal, line, steps) = answer;
+    Reply::Numbers(refusal, line, steps)
+}
+
 // Makes one call on a screen.
 pub fn make_call<S: Store>(screen: &mut Screen<S>, call: Call) -> Reply
-    ensures answer { result ≡ reply_of (screen_call screen_rules (model S.Store.book screen.old) (call_of call.entry)).0 }
-    ensures screen { model S.Store.book screen.new ≡ (screen_call screen_rules (model S.Store.book screen.old) (call_of call.entry)).1 }
+    ensures answer { result ≡ reply_of (screen_call screen_rules (model S.book screen.old) (call_of call.entry)).0 }
+    ensures screen { model S.book screen.new ≡ (screen_call screen_rules (model S.book screen.old) (call_of call.entry)).1 }
 {
     match call {
-        Call::Load(lines, terms) => {
-            let (refusal, line, steps) = screen.load(lines, terms);
-            Reply::Numbers(refusal, line, steps)
-        }
-        Call::Apply(q, budget) => {
-            let (refusal, line, steps) = screen.apply(q, budget);
-            Reply::Numbers(refusal, line, steps)
-        }
-        Call::Back => {
-            let (refusal, line, steps) = screen.back();
-            Reply::Numbers(refusal, line, steps)
-        }
+        Call::Load(lines, terms) => numbers(screen.load(lines, terms)),
+        Call::Apply(q, budget) => numbers(screen.apply(q, budget)),
+        Call::Back => numbers(screen.back()),
         Call::Look(w) => {
             let (refusal, word) = screen.look(w);
             Reply::Word(refusal, word)
@@ -46,7 +46,7 @@ fn keep(replies: &mut [Reply], at: usize, reply: Reply)
 
 // Opens a screen on the store and makes these calls. The replies go to the front of the slice, as many as it holds.
 pub fn play<S: Store>(store: S, calls: &[Call], replies: &mut [Reply]) -> Screen<S>
-    ensures { Played (S.Store.book store) (map call_of calls.now) replies.old replies.new (model S.Store.book result) }
+    ensures { Played (S.book store) (map call_of calls.now) replies.old replies.new (model S.book result) }
 {
     let mut screen = Screen::open(store);
     for (k, call) in calls.iter().enumerate() {
@@ -64,7 +64,7 @@ pub fn rehearse<A: Store, B: Store>(
     first: &mut [Reply],
     second: &mut [Reply],
 ) -> (A, B)
-    ensures { Rehearsed (A.Store.book a) (B.Store.book b) (map call_of calls.now) first.old first.new second.old second.new (A.Store.book result.0) (B.Store.book result.1) }
+    ensures { Rehearsed (A.book a) (B.book b) (map call_of calls.now) first.old first.new second.old second.new (A.book result.0) (B.book result.1) }
 {
     let left = play(a, calls, first);
     let right = play(b, calls, second);

@@ -1,4 +1,4 @@
-use Rattle.std.proofs.Common.{◌≡◌, Bool, true, false, sym, refl, ap, ◌∙◌}
+use Rattle.std.proofs.Common.{◌≡◌, Bool, true, false, Some, sym, refl, ap, ◌∙◌, arith}
 use Rattle.reversible.specs.Machine.{refused, walk}
 use Rattle.rules.specs.Book.{is_book}
 use Rattle.rules.specs.Step.{State, with_book}
@@ -20,9 +20,10 @@ returns-in-Err g c =
     let sc = script_of c.args.program.now in
     let a = g.S.Store.book c.args.store.now in
     let d = facing c.args.forward in
-    let (there, started) = c.in-Some.ensures in
+    let found : c.start.result ≡ Some c.in_ok-work.work = grind arith in
+    let (there, started) = rw found at c.start.ensures in
     let held : is_book a ≡ true = sym c.has_book.ensures ∙ c.if-not-has_book.false in
-    let begun : state c.in-Some.work a ≡ (machine sc).enter c.args.q d a = ap (with_book a) started ∙ ap (λ b. start sc b c.args.q a) (ahead_facing c.args.forward) in
+    let begun : state c.in_ok-work.work a ≡ (machine sc).enter c.args.q d a = ap (with_book a) started ∙ ap (λ b. start sc b c.args.q a) (ahead_facing c.args.forward) in
     let e = c.in-Err.ensures ∙ ap (λ s. halted 0 (walk (machine sc) c.args.budget s)) begun in
     let r = c.in-Err.stopped in
     let (told, back) = refused_run sc (accepted_from sc c.args.program.now.right) c.args.q d a held there c.args.budget _ r e in

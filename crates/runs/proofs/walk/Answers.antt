@@ -4,8 +4,15 @@ use Rattle.rules.specs.Run.{machine}
 use Rattle.script.specs.Programs.{script_of}
 use Rattle.work.specs.View.{state}
 use Rattle.runs.specs.Walks.{stopped_at, halt, halted}
-use Rattle.runs.proofs.Walking.{ends, stops, goes_on}
+use Rattle.runs.proofs.Walking.{ends, spends, stops, goes_on}
 use Rattle.runs.proofs.walk.Goals as goal
+
+pub returns-then-steps-budget : goal.returns-then-steps-budget
+returns-then-steps-budget g c =
+    let n = c.loop-work.steps in
+    ap (λ r. halt (Err r) (state c.loop-work.work (g.S.Store.book c.loop-work.store))) c.stopped_at.ensures
+    ∙ sym (spends _ _ (c.args.budget - n) _ (sym c.finished.ensures ∙ c.loop-work-test.true) (omega arith))
+    ∙ c.loop-work.invariant.1
 
 pub returns-in-Err : goal.returns-in-Err
 returns-in-Err g c =

@@ -20,6 +20,6 @@ returns-in-Back g c =
     let rest : Answer ℤ Refusal × Model (List ℤ) Script → Model (List ℤ) Script = λ p. p.1 in
     let same = ap h (sym c.in-Back.is) in
     record {
-      answer = ap f c.back-refusal.ensures.answer ∙ back_reply m (standing_of c.args.screen.now) ∙ ap first same;
-      screen = c.back-refusal.ensures.screen ∙ ap rest same;
+      answer = c.numbers-in-Back.ensures ∙ ap f c.back.ensures.answer ∙ back_reply m (standing_of c.args.screen.now) ∙ ap first same;
+      screen = c.back.ensures.screen ∙ ap rest same;
     }

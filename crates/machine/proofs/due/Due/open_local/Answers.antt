@@ -15,3 +15,7 @@ returns-then-is_full g c =
 pub returns-in_err-e : goal.returns-in_err-e
 unfolding opens ◌>>=◌ need
 returns-in_err-e g c = search rules
+
+pub returns-then-is_full : goal.returns-then-is_full
+unfolding opens ◌>>=◌ need
+returns-then-is_full g c = search rules
