@@ -1,15 +1,15 @@
 -- Moves over a book.
-use Rattle.std.proofs.Common.{◌≡◌, ℕ, ◌-◌, ◌<◌, ◌≤◌, true, false, leb, ◌≢◌, List, length, get_or, set, replicate, ℤ, pos, ◌+ℤ◌, ◌-ℤ◌, sym, refl, ap, ◌∙◌, subst, ⊎_elim, arith, w32}
+use Rattle.std.proofs.Common.{◌≡◌, Ok, ℕ, ◌-◌, ◌<◌, ◌≤◌, true, false, leb, ◌≢◌, List, length, get_or, set, replicate, ℤ, pos, ◌+ℤ◌, ◌-ℤ◌, sym, refl, ap, ◌∙◌, subst, ⊎_elim, arith, w32}
 use Rattle.std.proofs.lemmas.Int.{int_wrap_fits, int_wrap-add_right, ints}
 use Rattle.std.proofs.lemmas.List.{length-set, get_or-set_same, get_or-set_other, get_or-replicate}
 use Rattle.std.proofs.lemmas.List.FromFn.{fill_by_all}
 use Rattle.std.proofs.lemmas.Bool.{cases_Bool, cases_lt, cond_both, cond-true, cond-false, and_parts, leb-true}
 use Rattle.std.proofs.lemmas.Bool.Decides.{nat_tests}
 use Rattle.rules.specs.Word.{word}
-use Rattle.rules.specs.Book.{Held}
+use Rattle.rules.specs.Book.{Held, read_of}
 use Rattle.store.specs.Layout.{tab, is_mark, move_of, seen, moved, mark_moved}
 use Rattle.store.specs.Held.{Word, held_word, length_tab}
-use Rattle.store.proofs.Tabs.{tab_set, tab_past}
+use Rattle.store.proofs.Tabs.{tab_set, tab_past, given_in, read_tab}
 
 pub mark_least : (w : ℕ) → is_mark w ≡ true → 1 ≤ w
 mark_least w m = leb-true 1 w (and_parts (leb 1 w) (leb w 64) m).0
@@ -24,7 +24,7 @@ restores b v f =
     int_wrap-add_right w32 b (v -ℤ b) ∙ ap word e ∙ int_wrap_fits w32 v f
 
 -- what is seen is the word below plus its move
-pub seen_sum : (ms : List ℤ) (i : ℕ) (x : ℤ) → Word x → word (x +ℤ move_of ms i) ≡ seen ms i x
+seen_sum : (ms : List ℤ) (i : ℕ) (x : ℤ) → Word x → word (x +ℤ move_of ms i) ≡ seen ms i x
 seen_sum ms i x f =
     let z : x +ℤ pos 0 ≡ x = omega (arith, ints) in
     ⊎_elim
@@ -101,5 +101,11 @@ mark_by ms b w v k l h =
     let lo : 1 ≤ w = mark_least w k in
     let hi : w ≤ 64 = mark_most w k in
     ap (λ x. move_of x w) (mark_in ms b w v h) ∙ cond-true (is_mark w) _ _ k ∙ get_or-set_same ms (w - 1) _ (pos 0) (omega arith)
+
+-- a word below plus its move is what the layer shows
+pub shown : (ms b : List ℤ) (w : ℕ) (x : ℤ) → Word x → Ok x ≡ read_of b w → read_of (moved ms b) w ≡ Ok (word (x +ℤ move_of ms w))
+shown ms b w x f h =
+    let i = given_in (length b) w (get_or b w (pos 0)) x h in
+    read_tab _ _ w i.0 ∙ ap Ok (ap (seen ms w) (sym i.1) ∙ sym (seen_sum ms w x f))
 
 pub ruleset layering = (mark_by, mark_past, moved_set_mark, moved_set_other, length_tab)

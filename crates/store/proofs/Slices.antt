@@ -20,13 +20,13 @@ use Rattle.store.proofs.Tabs.{tab_set}
 pub word_own : (z : ℤ) → Word z → to_z w32 (of_z w32 z) ≡ word z
 word_own z f = to_z-of_z w32 z f ∙ sym (int_wrap_fits w32 z f)
 
-pub word_bits : (n : ℕ) → n < 2 ^ 32 → to_z w32 n ≡ word (pos n)
+word_bits : (n : ℕ) → n < 2 ^ 32 → to_z w32 n ≡ word (pos n)
 unfolding int_wrap
 word_bits n h = let e : n ≡ n % 2 ^ 32 = omega arith in ap (to_z w32) e
 
 -- ---- words
 
-pub words_room : (xs : List ℤ) (i : ℕ) → i < length (words_book xs) → i < length xs
+words_room : (xs : List ℤ) (i : ℕ) → i < length (words_book xs) → i < length xs
 words_room xs i h =
     let k : i < held (length xs) = subst (λ n. i < n) (length_tab _ _) h in
     grind (arith, nat_tests)
@@ -62,7 +62,7 @@ word_joined bs i =
     let d = four_at bs i 3 (omega arith) in
     cc
 
-pub bytes_room : (bs : List ℕ) (i : ℕ) → i < length (bytes_book bs) → (i < length bs / 4) × (4 * i + 4 ≤ length bs)
+bytes_room : (bs : List ℕ) (i : ℕ) → i < length (bytes_book bs) → (i < length bs / 4) × (4 * i + 4 ≤ length bs)
 bytes_room bs i h =
     let k : i < held_in_bytes (length bs) = subst (λ n. i < n) (length_tab _ _) h in
     let r : i < length bs / 4 = grind (arith, nat_tests) in
@@ -113,3 +113,7 @@ bytes_set bs ys w v f h e =
     let same : four bs' i ≡ four bs i = four_kept bs ys w i many (omega arith) ne in
     sym (word_joined bs' i) ∙ ap joined same ∙ word_joined bs i)
     (λ _. sym (word_joined bs' w) ∙ ap joined (here ∙ e) ∙ ap (λ n. word (pos n)) (from_be_bytes-to_be_bytes_4 _ (of_z_below v f)) ∙ sym (word_bits _ (of_z_below v f)) ∙ to_z-of_z w32 v f))
+
+pub ruleset of_words = (length_tab, word_own, words_at, words_set)
+
+pub ruleset of_bytes = (length_tab, bytes_at, bytes_set)

@@ -1,5 +1,5 @@
 -- Tables of words, and what it means that a word is reached or refused.
-use Rattle.std.proofs.Common.{◌≡◌, ℕ, ◌<◌, ◌≤◌, ◌≢◌, length, get_or, set, ℤ, pos, Ok, Err, Result, sym, ap, ◌∙◌, ⊎_elim, arith}
+use Rattle.std.proofs.Common.{◌≡◌, ℕ, ◌<◌, ◌≤◌, ◌≢◌, length, get_or, set, ℤ, pos, Ok, Err, sym, ap, ◌∙◌, ⊎_elim, arith}
 use Rattle.std.proofs.lemmas.List.{same_lists, length-set, get_or-set_same, get_or-set_other, set_past}
 use Rattle.std.proofs.lemmas.Bool.{cases_eq}
 use Rattle.std.proofs.lemmas.Bool.Decides.{nat_tests}
@@ -21,10 +21,6 @@ given_in n w x y h = grind (arith, nat_tests)
 
 pub reached_tab : {A : Type 0} (f : ℕ → ℤ) (n w : ℕ) (x : A) → reached (tab f n) w x ≡ reached_in n w x
 reached_tab f n w x = ap (λ m. reached_in m w x) (length_tab f n)
-
--- so is the answer that a `?` hands on
-pub refused_tab : {A B : Type 0} (f : ℕ → ℤ) (n w : ℕ) (y : B) (x : A) (r : Result B Refusal) (e d : Refusal) → Err e ≡ reached_in n w x → r ≡ Err d → d ≡ e → r ≡ reached (tab f n) w y
-refused_tab f n w y x r e d h p q = p ∙ ap Err q ∙ sym (reached_tab f n w y ∙ refused_alike n w x y e h)
 
 pub read_tab : (f : ℕ → ℤ) (n w : ℕ) → w < n → read_of (tab f n) w ≡ Ok (f w)
 read_tab f n w h = reached_tab f n w _ ∙ reached_in_lem n w _ h ∙ ap Ok (get_or_tab f n w (pos 0) h)

@@ -30,7 +30,7 @@ pub trait Cell {
 }
 
 // A word to a cell.
-#[tactic(auto, using(crate::specs::Held::length_tab))]
+#[tactic(auto, using(crate::proofs::Slices::of_words))]
 impl Cell for i32 {
     ghost book = { words_book };
 
@@ -50,7 +50,7 @@ impl Cell for i32 {
 }
 
 // Four bytes to a word, the highest first.
-#[tactic(auto, using(crate::specs::Held::length_tab))]
+#[tactic(auto, using(crate::proofs::Slices::of_bytes))]
 impl Cell for u8 {
     ghost book = { bytes_book };
 

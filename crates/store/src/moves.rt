@@ -20,6 +20,7 @@ pub struct Moves<S> {
 
 impl<S: Store> Moves<S> {
     // No move yet: the layer holds what the store below holds.
+    #[tactic(auto, using(crate::proofs::Layers::moved_none))]
     pub fn over(below: S) -> Moves<S>
         ensures below { result.below ≡ below }
         ensures moves { result.moves ≡ replicate 64 (pos 0) }
