@@ -16,10 +16,9 @@ const RECORD: usize = 8;
 pub fn held_words(n: usize) -> usize
     ensures { result ≡ held n }
 {
-    if (LEAST..=MOST).contains(&n) && (n - LEAST) % RECORD == 0 {
-        n
-    } else {
-        0
+    match n {
+        LEAST..=MOST if (n - LEAST) % RECORD == 0 => n,
+        _ => 0,
     }
 }
 
