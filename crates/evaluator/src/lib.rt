@@ -6,6 +6,8 @@ mod expressions;
 mod operators;
 mod places;
 mod stack;
+#[cfg(test)]
+mod tests;
 
 pub use expressions::value;
 pub use places::{find, find_in, put_word, read_at, record_at, word_at, write_at};

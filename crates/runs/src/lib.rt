@@ -12,6 +12,9 @@ ghost use Rattle.work.specs.View.{state};
 ghost use Rattle.runs.specs.Endings.{facing, told, Restored, Apart};
 ghost use Rattle.runs.specs.Walks.{stopped_at, halt, halted, stepped};
 
+#[cfg(test)]
+mod tests;
+
 use machine::step;
 use rules::Refusal;
 use script::program::Program;

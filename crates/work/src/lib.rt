@@ -5,6 +5,8 @@
 mod parts;
 mod starts;
 mod table;
+#[cfg(test)]
+mod tests;
 mod turns;
 
 pub use parts::Work;
