@@ -7,6 +7,8 @@ ghost use Rattle.rules.specs.Figures.{Figures, Edges};
 mod building;
 mod numbers;
 mod telling;
+#[cfg(test)]
+mod tests;
 
 pub use numbers::NoRefusal;
 

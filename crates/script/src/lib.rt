@@ -9,4 +9,6 @@ mod methods;
 mod openers;
 mod pairs;
 pub mod program;
+#[cfg(test)]
+mod tests;
 pub mod turning;
