@@ -88,6 +88,7 @@ fn measure<S: Store + Drop>(
     Ok(())
 }
 
+// Each kind of store lies in memory of its own type and size, so the three share no more than `measure`.
 fn on_words(rt: &HostRuntime, job: &Job) -> io::Result<()> {
     let mut words = vec![in rt.alloc(); 0i32; job.size]?;
     measure(rt, job, "words", Words::new(words.as_mut_slice()))

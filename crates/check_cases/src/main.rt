@@ -45,6 +45,7 @@ fn entry(rt: &HostRuntime, text: &str) -> anyhow::Result<bool> {
 fn main(rt: HostRuntime) -> anyhow::Result<()> {
     let mut cases: u32 = 0;
     let mut wrong: u32 = 0;
+    // counted as they are told, so there is no list to count
     for text in rt.lines(rt.alloc()) {
         let text = text?;
         if text.is_empty() || text.starts_with('#') {

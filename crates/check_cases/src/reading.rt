@@ -12,6 +12,7 @@ pub struct Case {
     pub terms: Vec<Term>,
 }
 
+// `place_of` is what the readers of places share; which words they take differs from text to text.
 fn place(word: &str) -> Option<Place> {
     if word == "-" {
         return Some(Place::None);

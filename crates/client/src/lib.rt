@@ -43,6 +43,7 @@ pub fn copy_book<S: Store, T: Store>(from: &S, to: &mut T) -> Result<(), Refusal
     if size != to.size() {
         return Err(Refusal::NoSuchWord);
     }
+    // a store gives its words by number alone
     for w in 0..size {
         copy_word(from, to, w)?;
     }

@@ -33,6 +33,7 @@ fn known(p: Place) -> bool
     }
 }
 
+// `is_none` and `alike` are `==` with the rules' own words for it as their contracts, so that no caller needs to tie the two.
 pub fn is_none(p: Place) -> bool
     ensures { result ≡ is_none p }
 {

@@ -1,4 +1,6 @@
 // The machine of a checked program: one step, over any store.
+// Store and work state stay two parameters: in one struct that holds the store by `&mut`, each contract would also have to say that it is
+// still the same store that is lent.
 
 #![tactic(auto)]
 

@@ -80,6 +80,7 @@ impl<R: BufRead, W: Write> Desk<R, W> {
         if let Some(command) = self.waiting.take() {
             return Ok(command);
         }
+        // every loop ends, though the text has no bound of its own
         for _ in 0..u64::MAX {
             if !self.advance()? {
                 break;

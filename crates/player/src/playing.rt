@@ -15,6 +15,7 @@ use store::{Bytes, Moves, Store, Words};
 pub(crate) fn play<R: BufRead, W: Write>(desk: &mut Desk<R, W>, heap: Global) -> Result<(), Stop> {
     let mut words = Vec::new(heap);
     let mut bytes = Vec::new(heap);
+    // every loop ends, though the text has no bound of its own
     for _ in 0..u64::MAX {
         match desk.command()? {
             Command::Over => break,
@@ -50,7 +51,8 @@ fn on_new_store<R: BufRead, W: Write>(
     }
 }
 
-// Plays with none, one or two layers of moves over a store.
+// Plays with none, one or two layers of moves over a store. Peeling off a layer leaves a store of another type, so each depth has a
+// function of its own; one generic function cannot call itself at a smaller type without end.
 fn under_layers<R: BufRead, W: Write, S: Store + Drop>(
     desk: &mut Desk<R, W>,
     layers: u8,
@@ -99,6 +101,7 @@ fn on_store<R: BufRead, W: Write, S: Store + Drop>(
     taken: S,
 ) -> Result<Option<S>, Stop> {
     let mut store = taken;
+    // every loop ends, though the text has no bound of its own
     for _ in 0..u64::MAX {
         let command = desk.command()?;
         match command {
@@ -149,6 +152,7 @@ fn call_store<R: BufRead, W: Write, S: Store>(
 // The digest of the words of a store.
 fn store_digest<S: Store>(store: &S) -> u64 {
     let mut digest = empty_digest();
+    // a store gives its words by number alone
     for w in 0..store.size() {
         if let Ok(word) = store.read(w) {
             digest = with_word(digest, word);
@@ -163,6 +167,7 @@ fn on_screen<R: BufRead, W: Write, S: Store + Drop>(
     store: S,
 ) -> Result<S, Stop> {
     let mut screen = Screen::open(store);
+    // every loop ends, though the text has no bound of its own
     for _ in 0..u64::MAX {
         let command = desk.command()?;
         match command {
@@ -218,6 +223,7 @@ fn tell<R: BufRead, W: Write>(
 // The words that can be looked at, how many they are, and their digest.
 fn screen_digest<S: Store>(screen: &Screen<S>) -> (u32, u64) {
     let mut digest = empty_digest();
+    // a screen shows its words by number alone, and does not tell how many there are
     for w in 0..u32::MAX {
         let (refusal, word) = screen.look(w);
         if refusal != 0 {

@@ -3,6 +3,7 @@
 use std::alloc::{AllocError, AllocFailed};
 use std::{fmt, io};
 
+// Written by hand, since no derive converts `AllocFailed` of every type.
 #[derive(Drop)]
 pub enum Stop {
     Input(io::Error),

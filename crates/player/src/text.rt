@@ -31,6 +31,7 @@ impl Number for i32 {
     const EXPECTED: &'static str = "a number from -2147483648 to 2147483647";
 }
 
+// What was expected is a text, since it is only told.
 impl<'a> Text<'a> {
     pub(crate) fn new(line: &'a str) -> Text<'a> {
         Text {

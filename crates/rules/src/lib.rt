@@ -13,6 +13,7 @@ mod tests;
 pub use numbers::NoRefusal;
 
 // A place that a line or a term names. The index is whatever the caller wrote; the check judges it.
+// No place is one of the six sorts, written `-` and counted in a digest as the others are, so it is no `Option` of the other five.
 #[derive(Clone, Copy, Debug, PartialEq, Eq, Default)]
 pub enum Place {
     #[default]
@@ -29,7 +30,7 @@ pub enum Place {
     V(u8),
 }
 
-// A line of a script. Its fields are whatever the caller wrote; the check judges them.
+// A line of a script. Its fields are whatever the caller wrote; the check judges them. So the kind is a number: it may be that of none.
 #[derive(Clone, Copy, Debug, PartialEq, Eq, Default)]
 pub struct Line {
     pub kind: u8,
@@ -42,7 +43,7 @@ pub struct Line {
     pub count: u16,
 }
 
-// A term of a postfix expression.
+// A term of a postfix expression. Its kind, too, is whatever number the caller wrote.
 #[derive(Clone, Copy, Debug, PartialEq, Eq, Default)]
 pub struct Term {
     pub kind: u8,
@@ -159,6 +160,7 @@ pub enum Refusal {
 }
 
 // What a call keeps: its line, the record that was present before it, and the count of open locals.
+// A record is a number with 0 for none, here and wherever one is present, since that is the word that a reference holds.
 #[derive(Clone, Copy, Debug, PartialEq, Eq, Default)]
 pub struct Frame {
     pub line: u16,

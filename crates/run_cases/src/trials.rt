@@ -56,6 +56,7 @@ fn attempt<S: Store + Drop>(mut store: S, program: &Program, case: &Case) -> Fou
     }
 }
 
+// Each kind of store lies in memory of its own type and size, so the three share no more than `attempt`.
 pub(crate) fn on_words(heap: Global, program: &Program, case: &Case) -> Result<Found, AllocError> {
     let mut words = vec![in heap; 0i32; case.before.len()]?;
     Ok(attempt(Words::new(words.as_mut_slice()), program, case))

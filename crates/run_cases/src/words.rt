@@ -53,6 +53,7 @@ pub(crate) fn term(text: &str) -> Option<Term> {
     }
 }
 
+// The words are this table's own, and no impl of `FromStr` for a kind can stand outside the crate of kinds.
 pub(crate) fn kind(text: &str) -> Option<Kind> {
     match text {
         "begin" => Some(Kind::Begin),

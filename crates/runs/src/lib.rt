@@ -63,7 +63,8 @@ fn stopped_at(work: &Work, refusal: Refusal, steps: u32) -> Stopped
     }
 }
 
-// Steps until the method is finished, the budget is used up or a step is refused.
+// Steps until the method is finished, the budget is used up or a step is refused. They are counted by hand: a `for` over the budget would
+// ask in two places whether the method is finished, in the loop and after it.
 fn walk<S: Store>(
     store: &mut S,
     work: &mut Work,

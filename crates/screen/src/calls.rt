@@ -13,6 +13,7 @@ use script::program::Program;
 use store::Store;
 use work::start;
 
+// Load, apply and back answer three plain numbers, and look two, so that any caller can pass them on; 0 is no refusal.
 impl<S: Store> Screen<S> {
     // Takes a store: no lines, and nothing standing.
     pub fn open(store: S) -> Screen<S>

@@ -9,7 +9,7 @@ pub enum Call<'a> {
     Look(u32),
 }
 
-// What a screen answers: refusal, line and steps, or a refusal and a word.
+// What a screen answers: refusal, line and steps, or a refusal and a word. They are the plain numbers that its calls give.
 #[derive(Clone, Copy)]
 pub enum Reply {
     Numbers(u32, u32, u32),

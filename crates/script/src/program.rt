@@ -10,7 +10,8 @@ use arrayvec::ArrayVec;
 use rules::{Line, Term};
 
 // An accepted script in fixed memory, with the partner of each line and the begin and the end of each method worked out once,
-// so that a jump costs one look-up. The tables are as wide as their indices, so none needs a bound on a method's number.
+// so that a jump costs one look-up. The tables are as wide as their indices, so none needs a bound on a method's number, and the partners
+// stand apart from the lines, which are seen as the script's.
 #[derive(Drop)]
 pub struct Program {
     pub(crate) lines: ArrayVec<Line, 256>,

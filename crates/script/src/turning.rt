@@ -9,7 +9,7 @@ ghost use Rattle.script.specs.Verdicts.{script_from, verdict, turned_if, TurnsBa
 use crate::checking::{Fault, check};
 use rules::{Line, Term};
 
-// Kinds below 14 change their lowest bit.
+// Kinds below 14 change their lowest bit. It is told of numbers, as the rule tells it, and holds of those of no kind too.
 fn turned_kind(kind: u8) -> u8
     ensures { result ≡ turned_kind kind }
 {

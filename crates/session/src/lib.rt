@@ -42,7 +42,7 @@ pub fn with_word(digest: u64, word: i32) -> u64
     with_number(digest, word.cast_unsigned())
 }
 
-// The sort of a place as a number.
+// The sort of a place as the number that goes into a digest; no cast gives it, since a place holds an index.
 fn sort(place: Place) -> u8
     ensures { result ≡ letter place }
 {

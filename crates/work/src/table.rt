@@ -8,7 +8,7 @@ ghost use Rattle.script.specs.Programs.{script_of};
 use rules::{Line, NO_LINE};
 use script::program::Program;
 
-// Line k, or a line of no kind past the last.
+// Line k, or a line of no kind past the last: the rules' look-up is total, so that a turn at no line is refused as one of no kind.
 pub fn line_at(program: &Program, k: u32) -> Line
     ensures { result ≡ line_at (script_of program.now).lines k }
 {

@@ -34,7 +34,7 @@ pub fn met(number: u8, forward: bool) -> Result<Kind, Refusal>
     })
 }
 
-// Whether a method ends with a line of this kind, met in this direction.
+// Whether a method ends with a line of this kind, met in this direction. It is asked of a line's number, which may be that of no kind.
 fn ends(number: u8, forward: bool) -> bool
     ensures { result ≡ (met forward number == code End) }
 {
