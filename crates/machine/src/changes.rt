@@ -1,16 +1,14 @@
 // The lines that change number places and locals, and the position past a line.
 
 ghost use Rattle.std.specs.Prelude.{◌≡◌, []};
-ghost use Rattle.rules.specs.Step.{go_to, past, write};
-ghost use Rattle.script.specs.Programs.{script_of};
+ghost use Rattle.rules.specs.Step.{go_to, past, write, go};
 ghost use Rattle.work.specs.View.{state};
 ghost use Rattle.machine.specs.Steps.{Made};
 ghost use Rattle.machine.specs.Acting.{changed_by, changes, opens, closes};
 
 use crate::due::Due;
-use evaluator::{find, read_at, value, write_at};
+use evaluator::{find, read_at, write_at};
 use rules::{Refusal, Spot};
-use script::program::Program;
 use store::Store;
 use work::Work;
 
@@ -19,6 +17,14 @@ pub(crate) fn pass(work: &mut Work, l: u16)
     ensures { state work.new [] ≡ go_to (past work.old.forward l) (state work.old []) }
 {
     work.position = if work.forward { l as u32 + 1 } else { l as u32 };
+}
+
+// The step changes nothing but the position.
+pub(crate) fn go_past<S: Store>(store: &S, work: &mut Work, l: u16) -> Result<(), Refusal>
+    ensures { Made result work.old (S.book store.now) work.new (S.book store.now) (λ s. go l s) }
+{
+    pass(work, l);
+    Ok(())
 }
 
 // The spot u takes the word v, and the position goes past line l.
@@ -51,54 +57,51 @@ impl Change {
 }
 
 impl Due {
-    // add, subtract and xor
+    // add, subtract and xor, met either way
     #[tactic(auto, using(evaluator::proofs::Chains::chained), unfolding(crate::specs::Acting::changes))]
     pub(crate) fn change<S: Store>(
         self,
         store: &mut S,
         work: &mut Work,
-        program: &Program,
         change: Change,
+        e: i32,
     ) -> Result<(), Refusal>
-        ensures { Made result work.old (S.book store.old) work.new (S.book store.new) (λ s. changes (script_of program.now) self s change) }
+        ensures { Made result work.old (S.book store.old) work.new (S.book store.new) (λ s. changes self s change e) }
     {
-        let e = value(store, work, program, self.number)?;
         let u = find(work, self.line.x)?;
         let v = change.of(read_at(store, work, u), e);
         settle(store, work, self.number, u, v);
         Ok(())
     }
 
-    // local
+    // local, and delocal met backward
     #[tactic(auto, using(evaluator::proofs::Chains::chained), unfolding(crate::specs::Acting::opens))]
     pub(crate) fn open_local<S: Store>(
         self,
         store: &S,
         work: &mut Work,
-        program: &Program,
+        e: i32,
     ) -> Result<(), Refusal>
-        ensures { Made result work.old (S.book store.now) work.new (S.book store.now) (λ s. opens (script_of program.now) self s) }
+        ensures { Made result work.old (S.book store.now) work.new (S.book store.now) (λ s. opens self s e) }
     {
         if work.locals.is_full() {
             return Err(Refusal::TooDeep);
         }
-        let e = value(store, work, program, self.number)?;
         work.locals.push(e);
         pass(work, self.number);
         Ok(())
     }
 
-    // delocal
+    // delocal, and local met backward
     #[tactic(auto, using(evaluator::proofs::Chains::chained), unfolding(crate::specs::Acting::closes))]
     pub(crate) fn close_local<S: Store>(
         self,
         store: &S,
         work: &mut Work,
-        program: &Program,
+        e: i32,
     ) -> Result<(), Refusal>
-        ensures { Made result work.old (S.book store.now) work.new (S.book store.now) (λ s. closes (script_of program.now) self s) }
+        ensures { Made result work.old (S.book store.now) work.new (S.book store.now) (λ s. closes self s e) }
     {
-        let e = value(store, work, program, self.number)?;
         if work.locals.last().copied().unwrap_or(0) != e {
             return Err(Refusal::TestFailed);
         }

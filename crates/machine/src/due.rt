@@ -7,9 +7,9 @@ ghost use Rattle.machine.specs.Acting.{IsDue};
 
 use rules::{Kind, Line, Refusal};
 use script::program::Program;
-use work::{Work, line_at, met, turn};
+use work::{Work, line_at, turn};
 
-// A line whose turn it is, its number, and its kind as it is met.
+// A line whose turn it is, its number and its kind.
 #[derive(Clone, Copy)]
 pub(crate) struct Due {
     pub(crate) number: u16,
@@ -22,7 +22,7 @@ pub(crate) fn line_due(work: &Work, program: &Program) -> Result<Due, Refusal>
 {
     let at = turn(work);
     let line = line_at(program, at);
-    let kind = met(line.kind, work.forward)?;
+    let kind = Kind::try_from(line.kind)?;
     Ok(Due {
         number: at as u16,
         line,

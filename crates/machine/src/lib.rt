@@ -4,7 +4,6 @@
 
 #![tactic(auto)]
 
-mod branches;
 mod calls;
 mod changes;
 mod due;

@@ -25,7 +25,7 @@ fn swap_words<S: Store>(store: &mut S, work: &mut Work, u: Spot, w: Spot)
 }
 
 impl Due {
-    // new
+    // new, and delete met backward
     #[tactic(auto, using(evaluator::proofs::Chains::chained), unfolding(crate::specs::Acting::allocates))]
     pub(crate) fn allocate<S: Store>(self, store: &mut S, work: &mut Work) -> Result<(), Refusal>
         ensures { Made result work.old (S.book store.old) work.new (S.book store.new) (λ s. allocates self s) }
@@ -47,7 +47,7 @@ impl Due {
         Ok(())
     }
 
-    // delete
+    // delete, and new met backward
     #[tactic(auto, using(evaluator::proofs::Chains::chained), unfolding(crate::specs::Acting::releases))]
     pub(crate) fn release<S: Store>(self, store: &mut S, work: &mut Work) -> Result<(), Refusal>
         ensures { Made result work.old (S.book store.old) work.new (S.book store.new) (λ s. releases self s) }
@@ -62,7 +62,7 @@ impl Due {
         Ok(())
     }
 
-    // copy
+    // copy, and uncopy met backward
     #[tactic(auto, using(evaluator::proofs::Chains::chained), unfolding(crate::specs::Acting::duplicates))]
     pub(crate) fn duplicate<S: Store>(self, store: &mut S, work: &mut Work) -> Result<(), Refusal>
         ensures { Made result work.old (S.book store.old) work.new (S.book store.new) (λ s. duplicates self s) }
@@ -77,7 +77,7 @@ impl Due {
         Ok(())
     }
 
-    // uncopy
+    // uncopy, and copy met backward
     #[tactic(auto, using(evaluator::proofs::Chains::chained), unfolding(crate::specs::Acting::erases))]
     pub(crate) fn erase<S: Store>(self, store: &mut S, work: &mut Work) -> Result<(), Refusal>
         ensures { Made result work.old (S.book store.old) work.new (S.book store.new) (λ s. erases self s) }
@@ -91,7 +91,7 @@ impl Due {
         Ok(())
     }
 
-    // swap
+    // swap, met either way
     #[tactic(auto, using(evaluator::proofs::Chains::chained), unfolding(crate::specs::Acting::exchanges))]
     pub(crate) fn exchange<S: Store>(self, store: &mut S, work: &mut Work) -> Result<(), Refusal>
         ensures { Made result work.old (S.book store.old) work.new (S.book store.new) (λ s. exchanges self s) }
