@@ -62,7 +62,8 @@ pub fn read_at<S: Store>(store: &S, work: &Work, s: Spot) -> i32
 {
     match s {
         Spot::InBook(w) => word_at(store, w),
-        Spot::InLocals(i) => work.locals.get(i).copied().unwrap_or(0),
+        Spot::InLocals(i) if i < work.opened => work.locals[i],
+        Spot::InLocals(_) => 0,
     }
 }
 
@@ -71,11 +72,8 @@ pub fn write_at<S: Store>(store: &mut S, work: &mut Work, s: Spot, v: i32)
 {
     match s {
         Spot::InBook(w) => put_word(store, w, v),
-        Spot::InLocals(i) => {
-            if let Some(local) = work.locals.get_mut(i) {
-                *local = v;
-            }
-        }
+        Spot::InLocals(i) if i < work.opened => work.locals[i] = v,
+        Spot::InLocals(_) => {}
     }
 }
 

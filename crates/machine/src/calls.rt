@@ -37,7 +37,7 @@ fn push_frame(work: &mut Work, l: u16, k: u16)
     work.frames.push(Frame {
         line: l,
         former: work.present,
-        count: work.locals.len() as u16,
+        count: work.opened as u16,
     });
     work.present = k;
 }

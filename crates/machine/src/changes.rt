@@ -1,7 +1,7 @@
 // The lines that change number places and locals, and the position past a line.
 
-ghost use Rattle.std.specs.Prelude.{◌≡◌, []};
-ghost use Rattle.rules.specs.Step.{go_to, past, write, go};
+ghost use Rattle.std.specs.Prelude.{◌≡◌, ◌-◌, [], length, take};
+ghost use Rattle.rules.specs.Step.{go_to, past, with_locals, write, go};
 ghost use Rattle.work.specs.View.{state};
 ghost use Rattle.machine.specs.Steps.{Made};
 ghost use Rattle.machine.specs.Acting.{changed_by, changes, opens, closes};
@@ -33,6 +33,13 @@ pub(crate) fn settle<S: Store>(store: &mut S, work: &mut Work, l: u16, u: Spot, 
 {
     write_at(store, work, u, v);
     pass(work, l);
+}
+
+// The last local closes.
+fn drop_local(work: &mut Work)
+    ensures { state work.new [] ≡ with_locals (take (length (state work.old []).locals - 1) (state work.old []).locals) (state work.old []) }
+{
+    work.opened = work.opened.saturating_sub(1);
 }
 
 // What a line makes of the word at its place and the value of its expression.
@@ -84,10 +91,11 @@ impl Due {
     ) -> Result<(), Refusal>
         ensures { Made result work.old (S.book store.now) work.new (S.book store.now) (λ s. opens self s e) }
     {
-        if work.locals.is_full() {
+        if work.opened >= 256 {
             return Err(Refusal::TooDeep);
         }
-        work.locals.push(e);
+        work.locals[work.opened] = e;
+        work.opened += 1;
         pass(work, self.number);
         Ok(())
     }
@@ -102,10 +110,11 @@ impl Due {
     ) -> Result<(), Refusal>
         ensures { Made result work.old (S.book store.now) work.new (S.book store.now) (λ s. closes self s e) }
     {
-        if work.locals.last().copied().unwrap_or(0) != e {
+        let last = Spot::InLocals(work.opened.saturating_sub(1));
+        if read_at(store, work, last) != e {
             return Err(Refusal::TestFailed);
         }
-        let _ = work.locals.pop();
+        drop_local(work);
         pass(work, self.number);
         Ok(())
     }

@@ -35,7 +35,7 @@ impl Due {
                 | Kind::Uncall,
                 _,
             ) => Ok(0),
-            (Kind::Local, true) | (Kind::Delocal, false) if work.locals.is_full() => {
+            (Kind::Local, true) | (Kind::Delocal, false) if work.opened >= 256 => {
                 Err(Refusal::TooDeep)
             }
             _ => value(store, work, program, self.number),

@@ -1,5 +1,5 @@
 -- The state of the rules that a work state and a book stand for.
-use Rattle.std.specs.Prelude.{◌≡◌, ℕ, Bool, true, false, List, [], reverse, ℤ, Some, None, Option}
+use Rattle.std.specs.Prelude.{◌≡◌, ℕ, Bool, true, false, List, [], reverse, take, ℤ, Some, None, Option}
 use Rattle.rules.specs.Script.{Script, has_method}
 use Rattle.rules.specs.Step.{State}
 use Rattle.rules.specs.Run.{start}
@@ -11,7 +11,7 @@ state w b =
       position = w.position;
       forward = w.forward;
       present = w.present;
-      locals = w.locals.items;
+      locals = take w.opened w.locals;
       frames = reverse w.frames.items;
       book = b;
     }

@@ -1,3 +1,5 @@
+ghost use Rattle.std.specs.Prelude.{◌≡◌, ◌≤◌, length};
+
 use arrayvec::ArrayVec;
 use rules::Frame;
 
@@ -9,8 +11,11 @@ pub struct Work {
     pub forward: bool,
     // the present record, 0 for none
     pub present: u16,
-    // the open locals of all frames, the first opened first
-    pub locals: ArrayVec<i32, 256>,
+    // the open locals of all frames, the first opened first, and how many they are; what lies past them means nothing
+    pub locals: [i32; 256],
+    pub opened: usize,
     // the outermost first
     pub frames: ArrayVec<Frame, 64>,
+    ghost few: { opened ≤ 256 },
+    ghost room: { length locals ≡ 256 },
 }

@@ -26,7 +26,8 @@ fn fresh(position: u32, forward: bool) -> Work
         position,
         forward,
         present: 0,
-        locals: ArrayVec::new(),
+        locals: [0; 256],
+        opened: 0,
         frames: ArrayVec::new(),
     }
 }
