@@ -1,6 +1,5 @@
 -- An expression read term by term.
-use Rattle.std.proofs.Common.{◌≡◌, ℕ, suc, ◌+◌, ◌-◌, ◌<◌, ◌≤◌, Bool, true, false, cond, ◌&&◌, ◌||◌, eqb, ltb, leb, List, [], ◌∷◌, length, get_or, drop, Some, None, Ok, Err, Option, Result, sym, refl, ap, ◌∙◌, ap₂, add-one}
-use Rattle.std.proofs.lemmas.List.{at_drop_more, at_drop_all}
+use Rattle.std.proofs.Common.{◌≡◌, ℕ, suc, ◌+◌, ◌-◌, Bool, true, false, cond, ◌&&◌, ◌||◌, eqb, ltb, leb, List, [], ◌∷◌, Some, None, Ok, Err, Option, Result, sym, refl, ap, ◌∙◌, ap₂, add-one}
 use Rattle.rules.specs.Check.{term_form, terms_form, postfix, names}
 use Rattle.rules.specs.declared.Place.{Place}
 use Rattle.rules.specs.declared.Term.{Term}
@@ -53,18 +52,3 @@ read_on_lem x d n named (t ∷ ts) = by (term_form d t) (leb t.kind 3) (ltb n 16
 
 pub read_all : (x : Place) (d : ℕ) (ts : List Term) → read_on x d 0 false ts ≡ read_in x d ts
 read_all x d ts = read_on_lem x d 0 false ts
-
-module _ (x : Place) (d n : ℕ) (named : Bool) (ts : List Term) (i : ℕ) (R : Result Bool Refusal) (inv : read_on x d n named (drop i ts) ≡ R) where
-  one_more : (e : Term) → i < length ts → go_on (waiting_after d (get_or ts i e) n) (λ m. read_on x d m (named || mentioned x (get_or ts i e)) (drop (i + 1) ts)) ≡ R
-  one_more e h =
-      let p : read_on x d n named (drop i ts) ≡ go_on (waiting_after d (get_or ts i e) n) (λ m. read_on x d m (named || mentioned x (get_or ts i e)) (drop (i + 1) ts)) = at_drop_more (read_on x d n named) ts i e h in
-      sym p ∙ inv
-
-  pub read_goes : (e : Term) (m : ℕ) → i < length ts → Some m ≡ waiting_after d (get_or ts i e) n → read_on x d m (named || mentioned x (get_or ts i e)) (drop (i + 1) ts) ≡ R
-  read_goes e m h w = ap (λ o. go_on o (λ m. read_on x d m (named || mentioned x (get_or ts i e)) (drop (i + 1) ts))) w ∙ one_more e h
-
-  pub read_stops : (e : Term) → i < length ts → None ≡ waiting_after d (get_or ts i e) n → Err Malformed ≡ R
-  read_stops e h w = ap (λ o. go_on o (λ m. read_on x d m (named || mentioned x (get_or ts i e)) (drop (i + 1) ts))) w ∙ one_more e h
-
-  pub read_ends : length ts ≤ i → cond (eqb n 1) (Ok named) (Err Malformed) ≡ R
-  read_ends h = let p : read_on x d n named (drop i ts) ≡ cond (eqb n 1) (Ok named) (Err Malformed) = at_drop_all (read_on x d n named) ts i h in sym p ∙ inv

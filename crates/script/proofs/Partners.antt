@@ -1,15 +1,15 @@
 -- Looking for the other line of a pair, a line at a time.
-use Rattle.std.proofs.Common.{◌≡◌, ℕ, suc, ◌+◌, ◌-◌, ◌<◌, ◌≤◌, Bool, true, false, ◌&&◌, cond, eqb, List, [], ◌∷◌, ◌++◌, map, reverse, length, not, ltb, Some, None, get_or, take, drop, set, replicate, sym, refl, ap, ◌∙◌, ⊎_elim, arith}
+use Rattle.std.proofs.Common.{◌≡◌, ℕ, suc, ◌+◌, ◌-◌, ◌<◌, ◌≤◌, Bool, true, false, ◌&&◌, cond, eqb, List, [], ◌∷◌, ◌++◌, reverse, length, not, Some, None, get_or, take, drop, sym, refl, ap, ◌∙◌, ⊎_elim, arith}
 use Rattle.std.proofs.lemmas.List.{length-map, length-reverse, length-drop, take_all}
 use Rattle.std.specs.List.{position, position_or_len}
 use Rattle.std.specs.Prelude.{unwrap_or}
 use Rattle.std.proofs.lemmas.List.Sums.{prefix_len-le-length}
 use Rattle.std.proofs.lemmas.List.Recursion.{is_position_or_len}
-use Rattle.std.proofs.lemmas.List.{at_drop_more, at_drop_all, get_or_default, get_or_past}
+use Rattle.std.proofs.lemmas.List.{at_drop_more, at_drop_all, get_or_past}
 use Rattle.std.proofs.lemmas.Bool.{cond-true, cond-false, lt-ltb, le-ltb, cases_lt}
-use Rattle.rules.specs.Script.{turned_kind, turned_line, turned, opens, closes, deeper, to_closer, where_is, no_line, line_at, partner}
+use Rattle.rules.specs.Script.{turned_line, turned, opens, closes, deeper, to_closer, where_is, no_line, line_at, partner}
 use Rattle.rules.specs.declared.Line.{Line}
-use Rattle.laws.proofs.Methods.{where_here, where_next, where_none}
+use Rattle.laws.proofs.Methods.{where_none}
 use Rattle.laws.proofs.Nest.{turned_append}
 use Rattle.std.proofs.Common.{take-append-drop}
 use Rattle.std.proofs.Math.Seq.{drop-append_seam}

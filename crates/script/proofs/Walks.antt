@@ -4,7 +4,7 @@ use Rattle.std.proofs.lemmas.List.{at_drop_more, at_drop_all, get_or-set_same, g
 use Rattle.std.proofs.lemmas.Bool.{eqb-true, eq-eqb, ne_eqb, lt-ltb, le-ltb, cases_eq, cases_lt}
 use Rattle.reversible.specs.Ledger.{Verdict, accepted, rejected}
 use Rattle.rules.specs.Answer.{either}
-use Rattle.rules.specs.Script.{Script, line_at, where_is, has_method}
+use Rattle.rules.specs.Script.{Script, line_at, where_is}
 use Rattle.rules.specs.Check.{well_filled, after, within, judged, calls, walked}
 use Rattle.rules.specs.declared.Line.{Line}
 use Rattle.rules.specs.declared.Refusal.{Refusal}

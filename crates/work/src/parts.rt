@@ -17,5 +17,5 @@ pub struct Work {
     // the outermost first
     pub frames: ArrayVec<Frame, 64>,
     ghost few: { opened ≤ 256 },
-    ghost room: { length locals ≡ 256 },
+    ghost wide: { length locals ≡ 256 },
 }

@@ -1,15 +1,15 @@
-use Rattle.std.proofs.Common.{◌≡◌, ℕ, zero, suc, ◌+◌, ◌≤◌, false, ltb, List, [], length, get_or, drop, replicate, Ok, sym, refl, ap, ◌∙◌, subst, arith}
+use Rattle.std.proofs.Common.{◌≡◌, ℕ, zero, suc, ◌+◌, ◌≤◌, false, ltb, List, length, get_or, drop, replicate, Ok, sym, refl, ap, ◌∙◌, subst, arith}
 use Rattle.std.proofs.lemmas.List.{get_or_default}
 use Rattle.std.proofs.lemmas.Bool.{le-ltb}
 use Rattle.reversible.specs.Ledger.{rejected}
 use Rattle.script.specs.declared.checking.Fault.{Fault}
-use Rattle.rules.specs.Script.{no_line, line_at, where_is}
+use Rattle.rules.specs.Script.{no_line, line_at}
 use Rattle.rules.specs.Check.{walked, judged}
 use Rattle.rules.specs.declared.Line.{Line}
 use Rattle.laws.proofs.Accepted.{judged_parts}
 use Rattle.script.specs.Verdicts.{script_from}
 use Rattle.script.proofs.Stacks.{blank, after_long}
-use Rattle.script.proofs.Walks.{Begun, judged_here, begun_next, goes_on, stops, left_open, all_closed}
+use Rattle.script.proofs.Walks.{Begun, judged_here, begun_next, goes_on, stops}
 use Rattle.script.proofs.checking.check_lines.Goals as goal
 
 none_yet : (n q w : ℕ) → get_or (replicate n false) q false ≡ ltb w 0

@@ -1,6 +1,5 @@
-use Rattle.std.proofs.Common.{◌≡◌, Ok, Result, sym, ap, ◌∙◌}
+use Rattle.std.proofs.Common.{Ok, sym, ap, ◌∙◌}
 use Rattle.laws.proofs.Stands.{whole}
-use Rattle.script.specs.declared.checking.Fault.{Fault}
 use Rattle.script.specs.Verdicts.{verdict}
 use Rattle.script.proofs.Turned.{turns_back}
 use Rattle.script.proofs.turning.turn.Goals as goal
