@@ -14,7 +14,7 @@ pub(crate) fn record_named<S: Store>(store: &S, v: i32) -> Option<u16>
     ensures { Names result (S.book store.now) v }
 {
     let records = store.size().saturating_sub(81) / 8;
-    if 1 <= v && v <= 1000 && v as u32 <= records {
+    if (1..=1000).contains(&v) && v as u32 <= records {
         Some(v as u16)
     } else {
         None
@@ -34,7 +34,7 @@ pub(crate) fn lies_in(s: Spot, k: u16) -> bool
     ensures { result ≡ inside s k }
 {
     match s {
-        Spot::InBook(w) => record_at(k) <= w && w < record_at(k) + 8,
+        Spot::InBook(w) => (record_at(k)..record_at(k) + 8).contains(&w),
         Spot::InLocals(_) => false,
     }
 }
