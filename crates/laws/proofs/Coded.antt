@@ -1,8 +1,32 @@
--- How the numbers of kinds are met backward.
-use Rattle.std.proofs.Common.{◌≡◌, ℕ, ◌<◌, ◌≤◌, Bool, true, false, eqb, ltb, sym, refl, ap, ◌∙◌, ⊎_elim, arith}
+-- The numbers of kinds, and how they are met backward.
+use Rattle.std.proofs.Common.{◌≡◌, ℕ, ◌<◌, ◌≤◌, Bool, true, false, eqb, ltb, leb, sym, refl, ap, ◌∙◌, ⊎_elim, arith}
 use Rattle.std.proofs.lemmas.Bool.{cases_lt, cond-false, le-ltb, ne_eqb}
+use Rattle.rules.specs.Kinds.{code}
+use Rattle.rules.specs.declared.Kind.{Kind}
+use Rattle.rules.specs.declared.Kind.TheVariants.{Begin, End, Add, Subtract, If, Fi, From, Until, Local, Delocal, New, Delete, Copy, Uncopy, Xor, Swap, Call, Uncall}
 use Rattle.rules.specs.Step.{met}
 use Rattle.laws.proofs.Turning.{each_at}
+
+-- no kind has a number past 17
+pub code_low : (k : Kind) → leb (code k) 17 ≡ true
+code_low Begin = refl
+code_low End = refl
+code_low Add = refl
+code_low Subtract = refl
+code_low If = refl
+code_low Fi = refl
+code_low From = refl
+code_low Until = refl
+code_low Local = refl
+code_low Delocal = refl
+code_low New = refl
+code_low Delete = refl
+code_low Copy = refl
+code_low Uncopy = refl
+code_low Xor = refl
+code_low Swap = refl
+code_low Call = refl
+code_low Uncall = refl
 
 pub met_high : (d : Bool) (k : ℕ) → 18 ≤ k → met d k ≡ k
 met_high true k h = refl

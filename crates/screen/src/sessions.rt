@@ -35,7 +35,7 @@ pub fn make_call<S: Store>(screen: &mut Screen<S>, call: Call) -> Reply
     }
 }
 
-// Keeps a reply where there is a place for it.
+// Keeps a reply where there is a place for it; `get_mut` would read no plainer.
 fn keep(replies: &mut [Reply], at: usize, reply: Reply)
     ensures { replies.new ≡ slice_set replies.old at reply }
 {
