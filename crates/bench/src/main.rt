@@ -45,13 +45,20 @@ fn read_choice(rt: &HostRuntime) -> io::Result<Choice> {
     Ok(Choice { times, job, kind })
 }
 
-// A script and how many words its book has, if the script is accepted.
-fn job(name: &'static str, lines: &[Line], terms: &[Term], size: usize) -> Option<Job> {
+// A script to measure, if it is accepted.
+fn job(
+    name: &'static str,
+    lines: &[Line],
+    terms: &[Term],
+    size: usize,
+    both_ways: bool,
+) -> Option<Job> {
     let program = Program::build(lines, terms).ok()?;
     Some(Job {
         name,
         program,
         size,
+        both_ways,
     })
 }
 
@@ -60,9 +67,9 @@ fn measure_chosen(rt: &HostRuntime, choice: &Choice) -> io::Result<()> {
     let loops = arithmetic_terms(ARITHMETIC_ROUNDS.saturating_mul(choice.times));
     let walks = walk_terms(WALK_ROUNDS.saturating_mul(choice.times));
     let jobs = [
-        job("arithmetic", &arithmetic(), &loops, SMALL),
-        job("walk", &walk(), &walks, LARGE),
-        job("refused", &refused(), &loops, SMALL),
+        job("arithmetic", &arithmetic(), &loops, SMALL, true),
+        job("walk", &walk(), &walks, LARGE, true),
+        job("refused", &refused(), &loops, SMALL, false),
     ];
     for job in jobs.iter().flatten() {
         if wanted(choice.job.as_deref(), job.name) {

@@ -1,17 +1,18 @@
 // Runs of a script on the three kinds of store, with what they gave and how fast they were.
 
-use runs::{Stopped, numbers, run};
+use runs::{numbers, run};
 use script::program::Program;
 use std::io;
 use std::time::Instant;
 use store::{Bytes, Moves, Store, Words};
 
-// A script to measure, and how many words its book has.
+// A script to measure, how many words its book has, and whether it is run backward too.
 #[derive(Drop)]
 pub(crate) struct Job {
     pub(crate) name: &'static str,
     pub(crate) program: Program,
     pub(crate) size: usize,
+    pub(crate) both_ways: bool,
 }
 
 // The factor in m3.
@@ -58,7 +59,7 @@ fn leg<S: Store>(
     kind: &str,
     store: &mut S,
     forward: bool,
-) -> io::Result<Result<u32, Stopped>> {
+) -> io::Result<()> {
     let name = job.name;
     let way = if forward { "forward" } else { "backward" };
     let start = Instant::now(rt)?;
@@ -70,11 +71,9 @@ fn leg<S: Store>(
     eprintln!(rt;
         "{name} on {kind}, {way}: {} steps a second",
         rate(steps, nanos)
-    )?;
-    Ok(ending)
+    )
 }
 
-// Runs the script forward, and backward too if it finishes.
 fn measure<S: Store + Drop>(
     rt: &HostRuntime,
     job: &Job,
@@ -82,8 +81,9 @@ fn measure<S: Store + Drop>(
     mut store: S,
 ) -> io::Result<()> {
     open(&mut store);
-    if leg(rt, job, kind, &mut store, true)?.is_ok() {
-        let _ = leg(rt, job, kind, &mut store, false)?;
+    leg(rt, job, kind, &mut store, true)?;
+    if job.both_ways {
+        leg(rt, job, kind, &mut store, false)?;
     }
     Ok(())
 }

@@ -7,20 +7,11 @@
 mod reading;
 
 use reading::{Case, read_case};
-use rules::{Line, Term};
-use script::checking::check;
-
-// The verdict of the check as two numbers.
-fn verdict(lines: &[Line], terms: &[Term]) -> (u32, u32) {
-    match check(lines, terms) {
-        Ok(()) => (0, 0),
-        Err(fault) => (u32::from(fault.refusal), u32::from(fault.line)),
-    }
-}
+use script::checking::{check, numbers};
 
 // Says how a case went; true where the verdict is the expected one.
 fn judge(rt: &HostRuntime, name: &str, case: &Case) -> anyhow::Result<bool> {
-    let found = verdict(case.lines.as_slice(), case.terms.as_slice());
+    let found = numbers(check(case.lines.as_slice(), case.terms.as_slice()));
     let (refusal, line) = found;
     if found == case.verdict {
         println!(rt; "{name}: ({refusal}, {line})")?;

@@ -14,7 +14,7 @@ fn holds<S: Store>(rt: &impl Abort, store: &mut S, size: u32) -> Result<(), Fail
     }
 }
 
-// What a read gives, with a refusal as its number.
+// What a read gives, with a refusal as its number, in which the values of these tests are written.
 fn got<S: Store>(store: &S, w: u32) -> Result<i32, u32> {
     store.read(w).map_err(u32::from)
 }

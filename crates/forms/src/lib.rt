@@ -66,6 +66,7 @@ pub fn reaches(depth: usize, p: Place) -> bool
     }
 }
 
+// What a kind uses is told by four lists of kinds: one table of four flags for each of eighteen kinds would be longer.
 fn uses_method(kind: Kind) -> bool
     ensures { result ≡ (form_of (code kind)).method }
 {

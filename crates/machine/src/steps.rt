@@ -60,7 +60,7 @@ impl Due {
         }
     }
 
-    // What the line does, with its values in hand.
+    // What the line does, with its values in hand: one match over kind, direction and values, as was wanted of a step.
     fn act<S: Store>(
         self,
         store: &mut S,
@@ -109,7 +109,7 @@ impl Due {
     }
 }
 
-// One step. A refused step alters nothing.
+// One step. A refused step alters nothing. The evaluator's answers are taken apart by `let .. else`, as was wanted of it.
 pub fn step<S: Store>(store: &mut S, work: &mut Work, program: &Program) -> Result<(), Refusal>
     ensures { Made result work.old (S.book store.old) work.new (S.book store.new) (λ s. step_of (script_of program.now) s) }
 {

@@ -10,7 +10,7 @@ use std::io::{BufRead, Write};
 pub struct Desk<R, W> {
     reader: R,
     pub out: W,
-    // the line of text that was read last, and its number from 1
+    // the line of text that was read last, and its number from 1, counted as lines are read into the same memory
     line: Vec<u8>,
     number: u64,
     // a command that was read and is still to be carried out

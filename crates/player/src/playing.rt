@@ -151,14 +151,9 @@ fn call_store<R: BufRead, W: Write, S: Store>(
 
 // The digest of the words of a store.
 fn store_digest<S: Store>(store: &S) -> u64 {
-    let mut digest = empty_digest();
-    // a store gives its words by number alone
-    for w in 0..store.size() {
-        if let Ok(word) = store.read(w) {
-            digest = with_word(digest, word);
-        }
-    }
-    digest
+    (0..store.size())
+        .filter_map(|w| store.read(w).ok())
+        .fold(empty_digest(), with_word)
 }
 
 // Opens a screen on a store, plays on it, and hands the store over when it is closed.

@@ -3,7 +3,7 @@
 use crate::commands::Command;
 use crate::desk::Desk;
 use crate::stops::Stop;
-use script::checking::{Fault, check};
+use script::checking::{Fault, check, numbers};
 use script::turning::turn;
 use session::lines_digest;
 use std::io::{BufRead, Write};
@@ -60,10 +60,7 @@ fn verdict<R: BufRead, W: Write>(
     what: &str,
     answer: Result<(), Fault>,
 ) -> Result<(), Stop> {
-    let (refusal, line) = match answer {
-        Ok(()) => (0, 0),
-        Err(fault) => (u32::from(fault.refusal), fault.line),
-    };
+    let (refusal, line) = numbers(answer);
     writeln!(desk.out, "{what} {refusal} {line}")?;
     Ok(())
 }

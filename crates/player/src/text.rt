@@ -31,7 +31,7 @@ impl Number for i32 {
     const EXPECTED: &'static str = "a number from -2147483648 to 2147483647";
 }
 
-// What was expected is a text, since it is only told.
+// An error is the text of what was expected: it is printed, and nothing else is done with it.
 impl<'a> Text<'a> {
     pub(crate) fn new(line: &'a str) -> Text<'a> {
         Text {
@@ -77,7 +77,7 @@ pub(crate) fn read<F: FromStr + Drop>(
 where
     F::Err: Drop,
 {
-    word.and_then(decimal).ok_or(expected)
+    decimal(word.ok_or(expected)?).ok_or(expected)
 }
 
 // A number in digits, with no plus in front.
@@ -91,7 +91,7 @@ where
     digits.parse().ok()
 }
 
-// The place that a word writes by a letter and an index.
+// The place that a word writes by a letter and an index; `place_of` is what the readers of places share.
 fn lettered(word: &str) -> Option<Place> {
     let (letter, digits) = word.split_at_checked(1)?;
     let index = decimal(digits)?;

@@ -11,7 +11,7 @@ use rules::Refusal;
 use std::fmt;
 use store::{Moves, Store};
 
-#[derive(Clone, Copy)]
+#[derive(Clone, Copy, Debug, PartialEq, Eq)]
 pub enum Instrument {
     Bund,
     Gilt,

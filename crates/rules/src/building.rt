@@ -60,7 +60,7 @@ impl Line {
 }
 
 impl Term {
-    // A term of this kind, and nothing else filled. The kind is a number, so that one of no kind can be written.
+    // A term of this kind, and nothing else filled. Any number is taken, so that a term of no kind can be written.
     pub fn bare(kind: u8) -> Term
         ensures { result ≡ record { kind = kind; number = pos 0; first = None; second = None } }
     {

@@ -4,7 +4,6 @@ ghost use Rattle.std.specs.Prelude.{Some};
 ghost use Rattle.rules.specs.Words.{meaning, no_meaning};
 
 use crate::{NoRefusal, Refusal};
-use std::error::Error;
 use std::fmt;
 
 impl fmt::Display for Refusal {
@@ -39,8 +38,6 @@ impl fmt::Display for Refusal {
     }
 }
 
-impl Error for Refusal {}
-
 impl fmt::Display for NoRefusal {
     ghost output = { λ _. Some no_meaning };
 
@@ -48,5 +45,3 @@ impl fmt::Display for NoRefusal {
         f.write_str("no refusal has this number")
     }
 }
-
-impl Error for NoRefusal {}

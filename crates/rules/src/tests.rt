@@ -1,6 +1,7 @@
 // Kinds and refusals as numbers, and lines and terms of each shape.
 
 use crate::{Kind, Line, NoRefusal, Operator, Place, Refusal, Term, TermKind};
+use std::alloc::AllocError;
 
 #[test]
 fn kinds_as_numbers(rt: HostRuntime) {
@@ -74,4 +75,13 @@ fn terms_of_each_shape(rt: HostRuntime) {
         (3, Place::R(1), Place::R(2))
     );
     assert_eq!(rt; Term::operator(Operator::Less).kind, 14);
+}
+
+#[test]
+fn refusals_in_words(rt: HostRuntime) -> Result<(), AllocError> {
+    let told = format!(in rt.alloc(); "{}", Refusal::NoFree)?;
+    assert_eq!(rt; told.as_str(), "no free record");
+    let told = format!(in rt.alloc(); "{}", NoRefusal(19))?;
+    assert_eq!(rt; told.as_str(), "no refusal has this number");
+    Ok(())
 }

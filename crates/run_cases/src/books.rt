@@ -6,6 +6,7 @@ use crate::words::place;
 use rules::Place;
 use std::alloc::Global;
 
+// The places of words are reckoned here by themselves, so that the table tests the engine's.
 // The word of a field of record k, as in `n0@1`.
 fn field_word(field: &str, record: &str) -> Option<usize> {
     let k = usize::from(record.parse::<u16>().ok()?);

@@ -42,6 +42,7 @@ fn three(text: &str) -> (&str, &str, &str) {
     (first, second, third)
 }
 
+// The words are this table's own, and a direction is a truth value in the call of a run.
 fn direction(text: &str) -> Option<bool> {
     match text {
         "forward" => Some(true),

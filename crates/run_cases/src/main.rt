@@ -15,7 +15,7 @@ use script::program::Program;
 use std::io;
 use trials::{Found, on_bytes, on_moves, on_words};
 
-// How many cases were run, and how many gave something else than the table says.
+// How many cases were run, and how many gave something else than the table says; counted as they are told.
 #[derive(Clone, Copy)]
 struct Tally {
     cases: u32,

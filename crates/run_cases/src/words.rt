@@ -3,12 +3,13 @@
 use rules::{Kind, Operator, Place, Term};
 use session::place_of;
 
+// `place_of` is what the readers of places share; which words they take differs from text to text.
 pub(crate) fn place(text: &str) -> Option<Place> {
     let letter = *text.as_bytes().first()?;
     place_of(letter, text.get(1..)?.parse().ok()?)
 }
 
-// An operator. `|` and `||` are written `or` and `either`, since `|` ends a field of the table.
+// An operator, in the words of this table alone. `|` and `||` are written `or` and `either`, since `|` ends a field of the table.
 fn operator(text: &str) -> Option<Operator> {
     match text {
         "+" => Some(Operator::Plus),

@@ -109,6 +109,7 @@ fn has_book<S: Store>(store: &S) -> bool
 }
 
 // Runs method q on the book of the store, in this direction, with this budget. A refused run leaves the book as it was.
+// Method, direction and budget are plain parameters, as was wanted of a run.
 pub fn run<S: Store>(
     store: &mut S,
     program: &Program,

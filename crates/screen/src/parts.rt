@@ -5,7 +5,7 @@ use script::program::Program;
 pub(crate) const CAPACITY: usize = 64;
 
 // A method that stands, and the steps in which it finished.
-#[derive(Clone, Copy, Default)]
+#[derive(Clone, Copy, Debug, PartialEq, Eq, Default)]
 pub struct Standing {
     pub method: u32,
     pub steps: u32,

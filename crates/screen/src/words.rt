@@ -10,7 +10,7 @@ pub enum Call<'a> {
 }
 
 // What a screen answers: refusal, line and steps, or a refusal and a word. They are the plain numbers that its calls give.
-#[derive(Clone, Copy)]
+#[derive(Clone, Copy, Debug, PartialEq, Eq)]
 pub enum Reply {
     Numbers(u32, u32, u32),
     Word(u32, i32),

@@ -1,6 +1,7 @@
 -- What the check's answers say.
 use Rattle.std.specs.Prelude.{◌≡◌, ℕ, Bool, false, not, ◌&&◌, List, [], Ok, Err, Result, slice_index_or}
 use Rattle.reversible.specs.Ledger.{Verdict, accepted, rejected}
+use Rattle.rules.specs.Answer.{number}
 use Rattle.rules.specs.Kinds.{code}
 use Rattle.rules.specs.Script.{Script, has_method, turned}
 use Rattle.rules.specs.Check.{within, walked, calls, checked}
@@ -17,6 +18,10 @@ script_from ls ts = record { lines = ls; terms = ts }
 abbrev pub verdict : Result (Unit {0}) Fault → Verdict Refusal
 verdict (Ok u) = accepted
 verdict (Err f) = rejected f.refusal f.line
+
+abbrev pub numbers_of : Verdict Refusal → ℕ × ℕ
+numbers_of accepted = (0, 0)
+numbers_of (rejected r k) = (number r, k)
 
 -- which methods the lines begin
 abbrev pub Knows : List Bool → List Line → Type 0

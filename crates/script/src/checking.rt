@@ -2,7 +2,7 @@
 
 ghost use Rattle.std.specs.Prelude.{◌≡◌, ◌^◌, ◌<◌, ◌≤◌, length, position};
 ghost use Rattle.rules.specs.Check.{checked};
-ghost use Rattle.script.specs.Verdicts.{script_from, verdict, LinesChecked, CallsChecked, Knows, missing};
+ghost use Rattle.script.specs.Verdicts.{script_from, verdict, numbers_of, LinesChecked, CallsChecked, Knows, missing};
 
 use crate::judging::{judge, note};
 use crate::openers::Openers;
@@ -13,6 +13,16 @@ use rules::{Kind, Line, Refusal, Term};
 pub struct Fault {
     pub refusal: Refusal,
     pub line: u16,
+}
+
+// The two numbers of a verdict: refusal or 0, and line.
+pub fn numbers(answer: Result<(), Fault>) -> (u32, u32)
+    ensures { result ≡ numbers_of (verdict answer) }
+{
+    match answer {
+        Ok(()) => (0, 0),
+        Err(fault) => (u32::from(fault.refusal), u32::from(fault.line)),
+    }
 }
 
 pub(crate) const TOO_LONG: Fault = Fault {
@@ -31,7 +41,7 @@ fn fault_at(refusal: Refusal, k: usize) -> Fault
     }
 }
 
-// The lines in order, then pairs left open; it gives the methods that are begun.
+// The lines in order, then pairs left open; it gives the methods that are begun, in a table as wide as a method's number.
 fn check_lines(lines: &[Line], terms: &[Term]) -> Result<[bool; 256], Fault>
     requires { length lines.now ≤ 256 }
     ensures { LinesChecked result (script_from lines.now terms.now) }
@@ -78,6 +88,7 @@ fn check_calls(lines: &[Line], begun: &[bool; 256]) -> Result<(), Fault>
     }
 }
 
+// Lines and terms are two parameters wherever a caller hands in tables, as was wanted of these calls.
 // Whether the rules allow a script, and if not, the first fault in the order of the rules and its line.
 pub fn check(lines: &[Line], terms: &[Term]) -> Result<(), Fault>
     ensures { verdict result ≡ checked (script_from lines.now terms.now) }

@@ -1,5 +1,6 @@
 // What a checked program answers.
 
+use crate::checking::{check, numbers};
 use crate::program::Program;
 use rules::{Kind, Line, Place, Term};
 
@@ -59,6 +60,12 @@ fn of_no_script(rt: HostRuntime) {
 
 #[test]
 fn of_a_pair_left_open(rt: HostRuntime) {
+    assert_eq!(rt; numbers(check(&lines(), &terms())), (3, 6));
     let fault = Program::build(&lines(), &terms()).err();
     assert_eq!(rt; fault.map(|f| (u32::from(f.refusal), f.line)), Some((3, 6)));
+}
+
+#[test]
+fn of_the_empty_script(rt: HostRuntime) {
+    assert_eq!(rt; numbers(check(&[], &[])), (0, 0));
 }

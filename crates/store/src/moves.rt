@@ -12,6 +12,7 @@ use rules::Refusal;
 
 const MARKS: usize = 64;
 
+// There is a move for each of the 64 number marks, so the array needs no count.
 #[derive(Drop)]
 pub struct Moves<S> {
     below: S,

@@ -5,11 +5,9 @@
 mod parts;
 mod starts;
 mod table;
-#[cfg(test)]
-mod tests;
 mod turns;
 
 pub use parts::Work;
 pub use starts::{start, turn_round};
 pub use table::{entry, line_at};
-pub use turns::{finished, met, turn};
+pub use turns::{finished, turn};

@@ -12,6 +12,7 @@ pub struct Work {
     // the present record, 0 for none
     pub present: u16,
     // the open locals of all frames, the first opened first, and how many they are; what lies past them means nothing
+    // (an array with a count, reset by repeat, as was wanted of the work state)
     pub locals: [i32; 256],
     pub opened: usize,
     // the outermost first

@@ -1,7 +1,7 @@
 // Whose turn it is, and whether the method is finished.
 
 ghost use Rattle.std.specs.Prelude.{◌≡◌, [], ◌==◌};
-ghost use Rattle.rules.specs.Kinds.{code, Decodes};
+ghost use Rattle.rules.specs.Kinds.{code};
 ghost use Rattle.rules.specs.declared.Kind.TheVariants.{End};
 ghost use Rattle.rules.specs.Step.{turn_of, met, finished as is_finished};
 ghost use Rattle.script.specs.Programs.{script_of};
@@ -9,7 +9,7 @@ ghost use Rattle.work.specs.View.{state};
 
 use crate::parts::Work;
 use crate::table::line_at;
-use rules::{Kind, Refusal};
+use rules::{Kind, Line};
 use script::program::Program;
 
 // The number of the line whose turn it is.
@@ -23,27 +23,16 @@ pub fn turn(work: &Work) -> u32
     }
 }
 
-// The kind of a line of this number, as it is met in this direction: backward, one below 14 is the other of its two.
-pub fn met(number: u8, forward: bool) -> Result<Kind, Refusal>
-    ensures { Decodes (met forward number) result }
+// Whether a method ends with this line, met in this direction.
+fn ends(line: Line, forward: bool) -> bool
+    ensures { result ≡ (met forward line.kind == code End) }
 {
-    Kind::try_from(if forward || number >= 14 {
-        number
-    } else {
-        number ^ 1
-    })
-}
-
-// Whether a method ends with a line of this kind, met in this direction. It is asked of a line's number, which may be that of no kind.
-fn ends(number: u8, forward: bool) -> bool
-    ensures { result ≡ (met forward number == code End) }
-{
-    met(number, forward) == Ok(Kind::End)
+    line.is(if forward { Kind::End } else { Kind::Begin })
 }
 
 // Whether an end is met forward, or a begin backward, with no frame.
 pub fn finished(work: &Work, program: &Program) -> bool
     ensures { result ≡ is_finished (script_of program.now) (state work.now []) }
 {
-    work.frames.is_empty() && ends(line_at(program, turn(work)).kind, work.forward)
+    work.frames.is_empty() && ends(line_at(program, turn(work)), work.forward)
 }
