@@ -45,7 +45,7 @@ fn is_book_of<S: Store>(rt: &impl Abort, store: &mut S, size: u32) -> Result<(),
     Ok(())
 }
 
-// A book in n words, or no book where its size is to be 0.
+// A book in n words, or no book where its size is to be 0. Words and bytes lie in memory of their own types, so each has a function.
 fn words_hold(rt: &impl Abort, heap: Global, n: usize, size: u32) -> Result<(), Fail> {
     let mut words = vec![in heap; 0i32; n]?;
     holds(rt, &mut Words::new(words.as_mut_slice()), size)

@@ -59,6 +59,7 @@ pub(crate) fn parse(line: &str) -> Result<Command, &'static str> {
     }
 }
 
+// The words of the text are matched here and below, each with what it means: a table of them would say no more.
 fn named(name: &str, text: &mut Text<'_>) -> Result<Command, &'static str> {
     match name {
         "session" => session(text),
