@@ -45,14 +45,18 @@ fn read_choice(rt: &HostRuntime) -> io::Result<Choice> {
     Ok(Choice { times, job, kind })
 }
 
-// A script to measure, if it is accepted.
+// A script to measure, if it is chosen and accepted.
 fn job(
+    choice: &Choice,
     name: &'static str,
     lines: &[Line],
     terms: &[Term],
     size: usize,
     both_ways: bool,
 ) -> Option<Job> {
+    if !wanted(choice.job.as_deref(), name) {
+        return None;
+    }
     let program = Program::build(lines, terms).ok()?;
     Some(Job {
         name,
@@ -67,14 +71,12 @@ fn measure_chosen(rt: &HostRuntime, choice: &Choice) -> io::Result<()> {
     let loops = arithmetic_terms(ARITHMETIC_ROUNDS.saturating_mul(choice.times));
     let walks = walk_terms(WALK_ROUNDS.saturating_mul(choice.times));
     let jobs = [
-        job("arithmetic", &arithmetic(), &loops, SMALL, true),
-        job("walk", &walk(), &walks, LARGE, true),
-        job("refused", &refused(), &loops, SMALL, false),
+        job(choice, "arithmetic", &arithmetic(), &loops, SMALL, true),
+        job(choice, "walk", &walk(), &walks, LARGE, true),
+        job(choice, "refused", &refused(), &loops, SMALL, false),
     ];
     for job in jobs.iter().flatten() {
-        if wanted(choice.job.as_deref(), job.name) {
-            on_kinds(rt, job, choice.kind.as_deref())?;
-        }
+        on_kinds(rt, job, choice.kind.as_deref())?;
     }
     Ok(())
 }

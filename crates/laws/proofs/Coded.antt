@@ -1,7 +1,7 @@
 -- The numbers of kinds, and how they are met backward.
-use Rattle.std.proofs.Common.{◌≡◌, ℕ, ◌<◌, ◌≤◌, Bool, true, false, eqb, ltb, leb, sym, refl, ap, ◌∙◌, ⊎_elim, arith}
+use Rattle.std.proofs.Common.{◌≡◌, ℕ, ◌<◌, ◌≤◌, Bool, true, false, eqb, ltb, leb, Ok, sym, refl, ap, ◌∙◌, ⊎_elim, arith}
 use Rattle.std.proofs.lemmas.Bool.{cases_lt, cond-false, le-ltb, ne_eqb}
-use Rattle.rules.specs.Kinds.{code}
+use Rattle.rules.specs.Kinds.{code, Decodes}
 use Rattle.rules.specs.declared.Kind.{Kind}
 use Rattle.rules.specs.declared.Kind.TheVariants.{Begin, End, Add, Subtract, If, Fi, From, Until, Local, Delocal, New, Delete, Copy, Uncopy, Xor, Swap, Call, Uncall}
 use Rattle.rules.specs.Step.{met}
@@ -27,6 +27,10 @@ code_low Xor = refl
 code_low Swap = refl
 code_low Call = refl
 code_low Uncall = refl
+
+-- and every number up to 17 decodes to a kind, which has that number
+pub low : (n : ℕ) → n < 18 → (k : Kind) × Decodes n (Ok k)
+low n h = each_at (λ m. (k : Kind) × Decodes m (Ok k)) 0 18 n ((Begin, refl), ((End, refl), ((Add, refl), ((Subtract, refl), ((If, refl), ((Fi, refl), ((From, refl), ((Until, refl), ((Local, refl), ((Delocal, refl), ((New, refl), ((Delete, refl), ((Copy, refl), ((Uncopy, refl), ((Xor, refl), ((Swap, refl), ((Call, refl), ((Uncall, refl), tt)))))))))))))))))) (omega arith) (omega arith)
 
 pub met_high : (d : Bool) (k : ℕ) → 18 ≤ k → met d k ≡ k
 met_high true k h = refl

@@ -37,9 +37,9 @@ fn of_places(kind: Kind, text: &str) -> Option<Line> {
     Some(Line::places(kind, place(x)?, optional(y)?))
 }
 
-// Adds the terms of an expression.
+// Adds the terms of an expression, no more than one past what a line can count, so that a longer text is left there.
 fn add_terms(terms: &mut Vec<Term>, text: &str) -> Option<()> {
-    for word in text.split_whitespace() {
+    for word in text.split_whitespace().take(usize::from(u16::MAX) + 1) {
         terms.push(term(word)?).ok()?;
     }
     Some(())

@@ -1,15 +1,11 @@
 -- Looking for the other line of a pair, a line at a time.
-use Rattle.std.proofs.Common.{◌≡◌, ℕ, suc, ◌+◌, ◌-◌, ◌<◌, ◌≤◌, Bool, true, false, ◌&&◌, cond, eqb, List, [], ◌∷◌, ◌++◌, reverse, length, not, Some, None, get_or, take, drop, sym, refl, ap, ◌∙◌, ⊎_elim, arith}
+use Rattle.std.proofs.Common.{◌≡◌, ℕ, suc, ◌+◌, ◌-◌, ◌<◌, ◌≤◌, Bool, true, false, ◌&&◌, cond, eqb, List, [], ◌∷◌, ◌++◌, reverse, length, get_or, take, drop, sym, refl, ap, ◌∙◌, arith}
 use Rattle.std.proofs.lemmas.List.{length-map, length-reverse, length-drop, take_all}
-use Rattle.std.specs.List.{position, position_or_len}
-use Rattle.std.specs.Prelude.{unwrap_or}
-use Rattle.std.proofs.lemmas.List.Sums.{prefix_len-le-length}
-use Rattle.std.proofs.lemmas.List.Recursion.{is_position_or_len}
 use Rattle.std.proofs.lemmas.List.{at_drop_more, at_drop_all, get_or_past}
-use Rattle.std.proofs.lemmas.Bool.{cond-true, cond-false, lt-ltb, le-ltb, cases_lt}
+use Rattle.std.proofs.lemmas.Bool.{cond-true, cond-false}
 use Rattle.rules.specs.Script.{turned_line, turned, opens, closes, deeper, to_closer, where_is, no_line, line_at, partner}
 use Rattle.rules.specs.declared.Line.{Line}
-use Rattle.laws.proofs.Methods.{where_none}
+use Rattle.laws.proofs.Methods.{where_here, where_next, where_none}
 use Rattle.laws.proofs.Nest.{turned_append}
 use Rattle.std.proofs.Common.{take-append-drop}
 use Rattle.std.proofs.Math.Seq.{drop-append_seam}
@@ -51,33 +47,36 @@ module _ (ls : List Line) (j d n : ℕ) (inv : j + to_closer (drop j ls) d ≡ n
 pub deeper_low : (kind d : ℕ) → deeper kind d ≤ d + 1
 deeper_low kind d = grind arith
 
--- ---- the first line of a kind and a method, as a search finds it
+-- ---- the first line of a kind for each method
 
-module _ (kind q : ℕ) where
-  abbrev pub begins_here : Line → Bool
-  begins_here l = eqb l.kind kind && eqb l.q q
+module _ (ls : List Line) (kind q : ℕ) where
+  pub none_past : (n : ℕ) → n ≡ length ls → n ≡ n + where_is kind q (drop n ls)
+  none_past n e =
+      let p : where_is kind q (drop n ls) ≡ where_is kind q [] = at_drop_all (where_is kind q) ls n (omega arith) in
+      let z = p ∙ where_none kind q in
+      omega arith
 
-  where_first : (ls : List Line) → where_is kind q ls ≡ position_or_len begins_here ls
-  unfolding where_is
-  where_first = is_position_or_len (where_is kind q) begins_here (where_none kind q) step
-    where
-      step : (l : Line) (ls : List Line) → where_is kind q (l ∷ ls) ≡ cond (begins_here l) 0 (1 + where_is kind q ls)
-      step l ls = by (begins_here l) (where_is kind q ls)
-        where
-          by : (b : Bool) (n : ℕ) → elim b as (λ _. ℕ) [ true ↦ 0 | false ↦ suc n ] ≡ cond b 0 (1 + n)
-          by true n = refl
-          by false n = omega arith
+  -- a table that is right from line j + 1 on is right from line j on once that line is kept
+  module _ (j : ℕ) (inside : j < length ls) where
+    abbrev at : Line
+    at = get_or ls j blank
 
-  pub where_found : (ls : List Line) → where_is kind q ls ≡ unwrap_or (position begins_here ls) (length ls)
-  where_found ls =
-      let n = length ls in
-      let i = position_or_len begins_here ls in
-      let low = prefix_len-le-length (λ l. not (begins_here l)) ls in
-      where_first ls
-      ∙ ⊎_elim
-      (λ h. sym (ap (λ t. unwrap_or (cond t (Some i) None) n) (lt-ltb i n h)))
-      (λ h. let e : i ≡ n = omega (arith, low) in e ∙ sym (ap (λ t. unwrap_or (cond t (Some i) None) n) (le-ltb i n h)))
-      (cases_lt i n)
+    split_first : where_is kind q (drop j ls) ≡ where_is kind q (at ∷ drop (j + 1) ls)
+    split_first = at_drop_more (where_is kind q) ls j blank inside
+
+    pub first_kept : (old new : ℕ) → old ≡ j + 1 + where_is kind q (drop (j + 1) ls)
+        → new ≡ cond (eqb at.kind kind && eqb at.q q) j old → new ≡ j + where_is kind q (drop j ls)
+    first_kept old new inv is = by _ refl
+      where
+        by : (b : Bool) → (eqb at.kind kind && eqb at.q q) ≡ b → new ≡ j + where_is kind q (drop j ls)
+        by true e =
+            let z = split_first ∙ where_here kind q at (drop (j + 1) ls) e in
+            let v = is ∙ ap (λ b. cond b j old) e in
+            omega arith
+        by false e =
+            let z = split_first ∙ where_next kind q at (drop (j + 1) ls) e in
+            let v = is ∙ ap (λ b. cond b j old) e in
+            omega arith
 
 -- ---- the partner of a line, by what its kind does
 

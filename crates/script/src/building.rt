@@ -1,10 +1,10 @@
 // Making a checked program, and looking things up in it.
 
-ghost use Rattle.std.specs.Prelude.{◌≡◌, ◌<◌, length, slice_get, IfOk, IfErr};
+ghost use Rattle.std.specs.Prelude.{◌≡◌, ◌<◌, [], length, slice_get, IfOk, IfErr};
 ghost use Rattle.rules.specs.Kinds.{code};
 ghost use Rattle.rules.specs.declared.Kind.TheVariants.{Begin, End};
 ghost use Rattle.rules.specs.Ledger.{no_script};
-ghost use Rattle.rules.specs.Script.{terms_of, partner as other_line, where_is, turned};
+ghost use Rattle.rules.specs.Script.{terms_of, partner as other_line, where_is};
 ghost use Rattle.script.specs.Programs.{script_of, Built};
 ghost use Rattle.script.specs.Verdicts.{script_from};
 
@@ -33,11 +33,18 @@ impl Program {
         ensures { Built result (script_from lines.now terms.now) }
     {
         check(lines, terms)?;
+        let mut copied_lines = ArrayVec::new();
+        fill(&mut copied_lines, lines)?;
+        let mut copied_terms = ArrayVec::new();
+        fill(&mut copied_terms, terms)?;
+        let mut turned: ArrayVec<Line, 256> = ArrayVec::new();
+        fill(&mut turned, lines)?;
+        turn_lines(turned.as_mut_slice());
         Ok(Program {
-            lines: table(lines)?,
-            terms: table(terms)?,
-            partners: partners(lines, turned_table(lines)?.as_slice()),
+            partners: partners(lines, turned.as_slice()),
             methods: methods(lines),
+            lines: copied_lines,
+            terms: copied_terms,
         })
     }
 
@@ -55,11 +62,18 @@ impl Program {
         self.lines.as_slice().get(k).copied()
     }
 
+    // All terms, in order.
+    pub fn terms(&self) -> &[Term]
+        ensures { result.now ≡ (script_of self.now).terms }
+    {
+        self.terms.as_slice()
+    }
+
     // The terms of a line's expression, as far as the table has them.
     pub fn expression(&self, line: Line) -> &[Term]
         ensures { result.now ≡ terms_of (script_of self.now).terms line }
     {
-        let terms = self.terms.as_slice();
+        let terms = self.terms();
         let end = (usize::from(line.first) + usize::from(line.count)).min(terms.len());
         let start = usize::from(line.first).min(end);
         &terms[start..end]
@@ -90,24 +104,14 @@ impl Program {
     }
 }
 
-// A copy of a table, if it is not too long.
-fn table<T: Copy + Default + Drop, const N: usize>(items: &[T]) -> Result<ArrayVec<T, N>, Fault>
-    ensures ok { IfOk result (λ copy. copy.items ≡ items.now) }
+// Fills an empty table with these items, if they are not too many. The table is lent, so that none is handed on in a Result of its own.
+fn fill<T: Copy + Drop, const N: usize>(
+    table: &mut ArrayVec<T, N>,
+    items: &[T],
+) -> Result<(), Fault>
+    requires { table.old.items ≡ [] }
+    ensures ok { IfOk result (λ _. table.new.items ≡ items.now) }
     ensures err { IfErr result (λ fault. N < length items.now) }
 {
-    let mut copy = ArrayVec::new();
-    match copy.try_extend_from_slice(items) {
-        Ok(()) => Ok(copy),
-        Err(_) => Err(TOO_LONG),
-    }
-}
-
-// The lines of a table exchanged end for end, and each turned, if it is not too long.
-fn turned_table(lines: &[Line]) -> Result<ArrayVec<Line, 256>, Fault>
-    ensures ok { IfOk result (λ copy. copy.items ≡ turned lines.now) }
-    ensures err { IfErr result (λ fault. 256 < length lines.now) }
-{
-    let mut copy = table(lines)?;
-    turn_lines(copy.as_mut_slice());
-    Ok(copy)
+    table.try_extend_from_slice(items).or(Err(TOO_LONG))
 }

@@ -1,6 +1,6 @@
 // The lines that opened a pair that is not closed yet.
 
-ghost use Rattle.std.specs.Prelude.{◌≡◌, suc, ◌<◌, ◌==◌, ◌&&◌, ◌||◌, not, [], length};
+ghost use Rattle.std.specs.Prelude.{◌≡◌, suc, ◌<◌, ◌==◌, ◌&&◌, ◌||◌, not, [], length, reverse};
 ghost use Rattle.rules.specs.Kinds.{code};
 ghost use Rattle.rules.specs.declared.Kind.TheVariants.{End};
 ghost use Rattle.rules.specs.Check.{nests as does_nest, after, depth};
@@ -10,9 +10,12 @@ use arrayvec::ArrayVec;
 use rules::{Kind, Line};
 use std::marker::Model;
 
+// The locals among them are counted as they come and go, since each line of a script asks how many there are.
 #[derive(Drop)]
 pub(crate) struct Openers {
     lines: ArrayVec<Line, 256>,
+    locals: usize,
+    ghost counted: { locals ≡ depth (reverse lines.items) },
 }
 
 impl Model for Openers {
@@ -31,6 +34,7 @@ impl Openers {
     {
         Openers {
             lines: ArrayVec::new(),
+            locals: 0,
         }
     }
 
@@ -44,11 +48,7 @@ impl Openers {
     pub(crate) fn locals(&self) -> usize
         ensures { result ≡ depth self.now }
     {
-        self.lines
-            .as_slice()
-            .iter()
-            .filter(|line| line.is(Kind::Local))
-            .count()
+        self.locals
     }
 
     // Whether a line may stand here: begin outside a method, every other line inside one, and a closer after its opener.
@@ -68,8 +68,11 @@ impl Openers {
     {
         if opens(line) {
             self.lines.push(line);
+            self.locals += usize::from(line.is(Kind::Local));
         } else if closes(line) {
-            let _ = self.lines.pop();
+            if let Some(opener) = self.lines.pop() {
+                self.locals -= usize::from(opener.is(Kind::Local));
+            }
         }
     }
 }

@@ -1,6 +1,6 @@
 // Lines that belong together: the other line of a pair, and the lines at which a method begins and ends.
 
-ghost use Rattle.std.specs.Prelude.{◌≡◌, ℕ, ◌^◌, ◌<◌, ◌≤◌, ◌==◌, ◌&&◌, length, position, slice_index, slice_index_or};
+ghost use Rattle.std.specs.Prelude.{◌≡◌, ℕ, ◌^◌, ◌<◌, ◌≤◌, ◌==◌, ◌&&◌, cond, length, slice_index, slice_index_or};
 ghost use Rattle.rules.specs.Kinds.{code};
 ghost use Rattle.rules.specs.declared.Kind.TheVariants.{Begin, End};
 ghost use Rattle.script.specs.Methods.{no_method};
@@ -87,30 +87,34 @@ pub(crate) fn partners(lines: &[Line], turned: &[Line]) -> [u16; 256]
     array::from_fn(|k| partner_of(lines, turned, k))
 }
 
-// Where the first line of this kind and method stands.
-fn find(lines: &[Line], kind: Kind, q: u8) -> Option<usize>
-    ensures { result ≡ position (λ l. l.kind == code kind && l.q == q) lines.now }
+// Keeps k, the number of this line, as the begin or the end of its method, where the line is one.
+fn keep(table: &mut [Method; 256], line: Line, k: u16)
+    ensures begins { (q : ℕ) → q < 256 → (slice_index_or table.new q no_method).begin ≡ cond (line.kind == code Begin && line.q == q) k (slice_index_or table.old q no_method).begin }
+    ensures ends { (q : ℕ) → q < 256 → (slice_index_or table.new q no_method).end ≡ cond (line.kind == code End && line.q == q) k (slice_index_or table.old q no_method).end }
 {
-    lines.iter().position(|line| line.is(kind) && line.q == q)
+    let method = &mut table[usize::from(line.q)];
+    if line.is(Kind::Begin) {
+        method.begin = k;
+    }
+    if line.is(Kind::End) {
+        method.end = k;
+    }
 }
 
-// The first line of this kind and method, the number of lines where there is none.
-#[tactic(auto, using(crate::proofs::Partners::where_found))]
-pub(crate) fn first_line(lines: &[Line], kind: Kind, q: u8) -> u16
-    requires { length lines.now ≤ 256 }
-    ensures { result ≡ where_is (code kind) q lines.now }
-{
-    find(lines, kind, q).unwrap_or(lines.len()) as u16
-}
-
-// The lines at which each method begins and ends.
+// The lines at which each method begins and ends. One walk serves all methods. It goes from the last line to the first, so that the first
+// of each is kept, and over numbers, since a number is what is kept.
 pub(crate) fn methods(lines: &[Line]) -> [Method; 256]
     requires { length lines.now ≤ 256 }
     ensures begins { (q : ℕ) → q < 256 → (slice_index_or result q no_method).begin ≡ where_is (code Begin) q lines.now }
     ensures ends { (q : ℕ) → q < 256 → (slice_index_or result q no_method).end ≡ where_is (code End) q lines.now }
 {
-    array::from_fn(|q| Method {
-        begin: first_line(lines, Kind::Begin, q as u8),
-        end: first_line(lines, Kind::End, q as u8),
-    })
+    let none = lines.len() as u16;
+    let mut table = [Method {
+        begin: none,
+        end: none,
+    }; 256];
+    for k in (0..lines.len()).rev() {
+        keep(&mut table, lines[k], k as u16);
+    }
+    table
 }

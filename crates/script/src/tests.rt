@@ -40,6 +40,7 @@ fn of_an_accepted_script(rt: HostRuntime) {
     assert_eq!(rt; program.len(), 7);
     assert_eq!(rt; program.line(2), Some(add));
     assert_eq!(rt; program.line(7), None);
+    assert_eq!(rt; program.terms(), terms().as_slice());
     assert_eq!(rt; program.expression(add).len(), 1);
     assert_eq!(rt; program.partner(1), 3);
     assert_eq!(rt; program.partner(3), 1);
@@ -55,6 +56,7 @@ fn of_no_script(rt: HostRuntime) {
     let program = Program::empty();
     assert_eq!(rt; program.len(), 0);
     assert_eq!(rt; program.line(0), None);
+    assert_eq!(rt; program.terms().len(), 0);
     assert_eq!(rt; (program.begin(0), program.end(31)), (0, 0));
 }
 

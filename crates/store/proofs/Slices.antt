@@ -24,6 +24,11 @@ word_bits : (n : ℕ) → n < 2 ^ 32 → to_z w32 n ≡ word (pos n)
 unfolding int_wrap
 word_bits n h = let e : n ≡ n % 2 ^ 32 = omega arith in ap (to_z w32) e
 
+-- a word put where it was found, written by the code's own place and value, is the word w made v
+pub put_as : {X : Type 0} (book : X → List ℤ) (put : X → ℕ → ℤ → X) (before after : X) (k w : ℕ) (v : ℤ) → Word v → after ≡ put before k (to_z w32 (of_z w32 v)) → k ≡ w → book (put before w v) ≡ set (book before) w v → book after ≡ set (book before) w v
+put_as book put before after k w v f e q s =
+    ap book e ∙ ap (λ i. book (put before i (to_z w32 (of_z w32 v)))) q ∙ ap (λ x. book (put before w x)) (to_z-of_z w32 v f) ∙ s
+
 -- ---- words
 
 words_room : (xs : List ℤ) (i : ℕ) → i < length (words_book xs) → i < length xs
