@@ -45,38 +45,63 @@ fn read_choice(rt: &HostRuntime) -> io::Result<Choice> {
     Ok(Choice { times, job, kind })
 }
 
-// A script to measure, if it is chosen and accepted.
-fn job(
-    choice: &Choice,
+// A script to measure, how many words its book has, and whether it is run backward too.
+#[derive(Clone, Copy)]
+struct Workload<'a> {
     name: &'static str,
-    lines: &[Line],
-    terms: &[Term],
+    lines: &'a [Line],
+    terms: &'a [Term],
     size: usize,
     both_ways: bool,
-) -> Option<Job> {
-    if !wanted(choice.job.as_deref(), name) {
-        return None;
-    }
-    let program = Program::build(lines, terms).ok()?;
-    Some(Job {
-        name,
-        program,
-        size,
-        both_ways,
-    })
 }
 
-// The chosen script, or all three.
+impl<'a> Workload<'a> {
+    // The job, if the script is accepted.
+    fn job(&self) -> Option<Job> {
+        Some(Job {
+            name: self.name,
+            program: Program::build(self.lines, self.terms).ok()?,
+            size: self.size,
+            both_ways: self.both_ways,
+        })
+    }
+}
+
+// The chosen script, or all three. Only what is chosen is built, and one program at a time.
 fn measure_chosen(rt: &HostRuntime, choice: &Choice) -> io::Result<()> {
+    let (counting, walking, refusing) = (arithmetic(), walk(), refused());
     let loops = arithmetic_terms(ARITHMETIC_ROUNDS.saturating_mul(choice.times));
     let walks = walk_terms(WALK_ROUNDS.saturating_mul(choice.times));
-    let jobs = [
-        job(choice, "arithmetic", &arithmetic(), &loops, SMALL, true),
-        job(choice, "walk", &walk(), &walks, LARGE, true),
-        job(choice, "refused", &refused(), &loops, SMALL, false),
+    let workloads = [
+        Workload {
+            name: "arithmetic",
+            lines: &counting,
+            terms: &loops,
+            size: SMALL,
+            both_ways: true,
+        },
+        Workload {
+            name: "walk",
+            lines: &walking,
+            terms: &walks,
+            size: LARGE,
+            both_ways: true,
+        },
+        Workload {
+            name: "refused",
+            lines: &refusing,
+            terms: &loops,
+            size: SMALL,
+            both_ways: false,
+        },
     ];
-    for job in jobs.iter().flatten() {
-        on_kinds(rt, job, choice.kind.as_deref())?;
+    for workload in workloads {
+        if !wanted(choice.job.as_deref(), workload.name) {
+            continue;
+        }
+        if let Some(job) = workload.job() {
+            on_kinds(rt, &job, choice.kind.as_deref())?;
+        }
     }
     Ok(())
 }
