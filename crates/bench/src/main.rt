@@ -45,7 +45,7 @@ fn read_choice(rt: &HostRuntime) -> io::Result<Choice> {
     Ok(Choice { times, job, kind })
 }
 
-// A script to measure, how many words its book has, and whether it is run backward too.
+// What a job is made of: its script as tables, not built yet, and the rest as the job has it.
 #[derive(Clone, Copy)]
 struct Workload<'a> {
     name: &'static str,
